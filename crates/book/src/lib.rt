@@ -1,0 +1,1 @@
+ghost use Rattle.book.specs.Grammar.{Grammar};

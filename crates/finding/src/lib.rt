@@ -1,0 +1,1 @@
+ghost use Rattle.finding.specs.Numbered.{Numbered};
