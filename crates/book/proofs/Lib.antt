@@ -1,0 +1,4 @@
+pub mod Numbers
+pub mod Headers
+pub mod Rules
+pub mod Held

@@ -19,6 +19,10 @@ pub record Grammar : Type 0 where
   pub start : ℕ
   pub rules : List Rule
 
+-- the grammar with one rule more
+abbrev pub with-rule : Grammar → Rule → Grammar
+with-rule g r = record { words = g .words; names = g .names; start = g .start; rules = g .rules ++ (r ∷ []) }
+
 -- how many symbols there are: each symbol lies below it
 abbrev pub symbols : Grammar → ℕ
 symbols g = g .words + g .names

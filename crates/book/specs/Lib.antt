@@ -1,1 +1,6 @@
 pub mod Grammar
+pub mod Refusals
+pub mod Reading
+pub mod Tables
+pub mod Flaws
+pub mod Checks
