@@ -9,7 +9,7 @@ use Rattle.std.specs.shelf.Lists.{All, joined}
 use Rattle.std.proofs.shelf.Lists.{length-drop, getD-drop, getD-take, length-take-le, take-append-drop, length-append, length-push, drop-drop, joined-more}
 use Rattle.std.proofs.shelf.Elements.{all-from-getD, all-push, all-weaker}
 use Rattle.std.specs.declared.result.Result.the-variants.{Ok, Err}
-use Rattle.book.specs.declared.check.Header.{Header}
+use Rattle.book.specs.declared.reader.Header.{Header}
 use Rattle.book.specs.Grammar.{Rule, rule, Grammar, symbols, with-rule}
 use Rattle.book.specs.Tables.{Name, dots, items, FitRule, Fit, rule-entries, header, entries, used, Begins, Holds}
 use Rattle.book.specs.Flaws.{SoundTo, InRange, Right, size}

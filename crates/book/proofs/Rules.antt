@@ -8,7 +8,7 @@ use lib.ListN.{length, getD, drop}
 use Rattle.std.proofs.shelf.Lists.{length-drop, getD-drop}
 use Rattle.std.specs.declared.result.Result.the-variants.{Ok, Err}
 use Rattle.book.specs.declared.fault.BookFault.{BookFault}
-use Rattle.book.specs.declared.check.Header.{Header}
+use Rattle.book.specs.declared.reader.Header.{Header}
 use Rattle.book.specs.Grammar.{Grammar, symbols}
 use Rattle.book.specs.Refusals.{refusal, told}
 use Rattle.book.specs.Tables.{Name, items, used}

@@ -6,10 +6,11 @@ use Prim.Native.Nat.{ℕ, _+_, _≤_, _<_}
 use lib.ListN.{length, getD, drop}
 use Rattle.std.specs.declared.result.Result.{Result}
 use Rattle.std.specs.declared.result.Result.the-variants.{Ok, Err}
+use Rattle.book.specs.declared.fault.Refusal.{Refusal}
 use Rattle.book.specs.declared.fault.BookFault.{BookFault}
 use Rattle.book.specs.declared.fault.BookFault.the-variants.{EntryMissing, HeaderRange, SymbolUnknown}
-use Rattle.book.specs.declared.check.Header.{Header}
-use Rattle.book.specs.declared.check.Summary.{Summary}
+use Rattle.book.specs.declared.reader.Header.{Header}
+use Rattle.book.specs.declared.reader.Summary.{Summary}
 use Rattle.book.specs.Grammar.{Grammar, symbols}
 use Rattle.book.specs.Refusals.{refusal}
 use Rattle.book.specs.Tables.{items, used, Begins, Holds}
@@ -79,3 +80,8 @@ summary g =
 abbrev pub Checked : List ℕ → Result Summary BookFault → Type 0
 Checked es (Ok s) = (g : Grammar) × Holds es g × (s ≡ summary g)
 Checked es (Err f) = TableFault es (refusal f)
+
+-- no other answer would be right: the grammar is the only one, and the fault the only first one
+abbrev pub OnlyChecked : List ℕ → Result Summary BookFault → Type 0
+OnlyChecked es (Ok s) = ((g g′ : Grammar) → Holds es g → Holds es g′ → g ≡ g′) × ((f : Refusal) → TableFault es f → ⊥)
+OnlyChecked es (Err f) = ((g : Grammar) → Holds es g → ⊥) × ((f′ : Refusal) → TableFault es f′ → f′ ≡ refusal f)

@@ -14,6 +14,7 @@ pub trait Entries {
 }
 
 /// The entries of a table.
+#[derive(Clone, Copy)]
 pub struct TableEntries<'a>(pub &'a [u16]);
 
 pub impl Entries for TableEntries<'_> as TableEntriesEntries {
@@ -25,6 +26,7 @@ pub impl Entries for TableEntries<'_> as TableEntriesEntries {
 }
 
 /// The entries of one rule: its left side, the length of its right side, and the right side.
+#[derive(Clone, Copy)]
 pub struct RuleEntries<'a> {
     pub left: u16,
     pub right: &'a [u16],
@@ -44,6 +46,7 @@ pub impl Entries for RuleEntries<'_> as RuleEntriesEntries {
 }
 
 /// The entries in the bytes of a file, two bytes each, the low byte first.
+#[derive(Clone, Copy)]
 pub struct FileEntries<'a>(pub &'a [u8]);
 
 pub impl Entries for FileEntries<'_> as FileEntriesEntries {

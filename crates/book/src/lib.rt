@@ -1,7 +1,9 @@
 //! The phrase book: a context-free grammar in a table of 16-bit numbers, and its file.
-mod check;
 mod entries;
 mod fault;
+mod reader;
 
 pub use fault::BookFault;
 pub use fault::Refusal;
+pub use reader::Summary;
+pub use reader::check;

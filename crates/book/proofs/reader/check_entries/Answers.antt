@@ -6,7 +6,7 @@ use Rattle.std.proofs.shelf.Results.{err-from-errBy}
 use Rattle.book.specs.Flaws.TableFault.{header, rule}
 use Rattle.book.specs.Checks.{ReadTo}
 use Rattle.book.proofs.Held.{read-none, read-more, read-bound, read-all}
-use Rattle.book.proofs.check.check_entries.Needs as need
+use Rattle.book.proofs.reader.check_entries.Needs as need
 
 pub returns-in-Break-h : need.returns-in-Break-h
 returns-in-Break-h g c =

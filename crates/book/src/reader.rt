@@ -4,8 +4,10 @@ ghost use Prim.Native.Nat.{ℕ, _+_, _<_, _≤_};
 ghost use lib.ListN.{length, getD, drop};
 ghost use Rattle.std.specs.Results.{Cases};
 ghost use Rattle.book.specs.Grammar.{Grammar};
-ghost use Rattle.book.specs.Checks.{Present, Between, HeaderChecked, SymbolsTo, SymbolFault, Stands, RuleChecked, Checked};
+ghost use Rattle.book.specs.Checks.{Present, Between, HeaderChecked, SymbolsTo, SymbolFault, Stands, RuleChecked, Checked, OnlyChecked};
 use super::entries::Entries;
+use super::entries::TableEntries;
+use super::entries::TableEntriesEntries;
 use super::fault::BookFault;
 
 /// The four entries in front of the rules.
@@ -110,4 +112,12 @@ pub fn check_entries<E: Entries>(book: &E) -> Result<Summary, BookFault>
         items += length + 1;
     }
     Ok(Summary { words: h.words, names: h.names, start: h.start, rules: h.rules, used, items })
+}
+
+/// The summary of the grammar that a table holds, or the table's first fault.
+pub fn check(table: &[u16]) -> Result<Summary, BookFault>
+    ensures checked { λ r. ⌜ Checked (now (table .entry)) r ⌝ }
+    ensures only { λ r. ⌜ OnlyChecked (now (table .entry)) r ⌝ }
+{
+    check_entries(&TableEntries(table))
 }

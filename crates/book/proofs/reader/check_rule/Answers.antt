@@ -4,9 +4,9 @@ use mathlib.Core.Logic.{⊎-elim}
 use Prim.Native.Nat.{_+_, _≤_, _<_}
 use lib.ListN.{getD}
 use Rattle.std.proofs.shelf.Results.{err-from-errBy}
-use Rattle.book.specs.declared.check.Header.{Header}
+use Rattle.book.specs.declared.reader.Header.{Header}
 use Rattle.book.proofs.Rules.{left-missing, left-wrong, length-missing, length-wrong, symbol-fault, items-wrong, rule-sound}
-use Rattle.book.proofs.check.check_rule.Needs as need
+use Rattle.book.proofs.reader.check_rule.Needs as need
 
 pub returns-in-Break-left : need.returns-in-Break-left
 returns-in-Break-left g c b s =

@@ -3,7 +3,7 @@ use native.Mathlib.Omega.{arith}
 use Rattle.std.proofs.shelf.Results.{err-from-errBy}
 use Rattle.book.specs.Flaws.{SoundTo, InRange}
 use Rattle.book.proofs.Headers.{sound-none, sound-more, header-fault}
-use Rattle.book.proofs.check.check_header.Needs as need
+use Rattle.book.proofs.reader.check_header.Needs as need
 
 pub returns-in-Break-words : need.returns-in-Break-words
 returns-in-Break-words g c =
