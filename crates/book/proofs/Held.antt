@@ -10,6 +10,7 @@ use Rattle.std.proofs.shelf.Lists.{length-drop, getD-drop, getD-take, length-ta
 use Rattle.std.proofs.shelf.Elements.{all-from-getD, all-push, all-weaker}
 use Rattle.std.specs.declared.result.Result.the-variants.{Ok, Err}
 use Rattle.book.specs.declared.reader.Header.{Header}
+use Rattle.book.specs.declared.reader.Summary.{Summary}
 use Rattle.book.specs.Grammar.{Rule, rule, Grammar, symbols, with-rule}
 use Rattle.book.specs.Tables.{Name, dots, items, FitRule, Fit, rule-entries, header, entries, used, Begins, Holds}
 use Rattle.book.specs.Flaws.{SoundTo, InRange, Right, size}
@@ -133,3 +134,29 @@ read-all es h i at count r end =
     let whole : length (g .rules) ≡ h .rules = omega arith in
     let a = s .words in let b = s .names in let c = r .start in let d = s .takes in let e = s .has in
     (g, begins-holds (r .begins) whole, (let k = whole in cc))
+
+-- what a reader knows of a book whose check passed
+pub record Known (es : List ℕ) (s : Summary) : Type 0 where
+  pub grammar : Grammar
+  pub holds : Holds es grammar
+  pub words : grammar .words ≡ s .words
+  pub names : grammar .names ≡ s .names
+  pub start : grammar .start ≡ s .start
+  pub rules : length (grammar .rules) ≡ s .rules
+  pub takes : used grammar ≡ s .used
+  pub has : items grammar ≡ s .items
+
+pub known : (es : List ℕ) (s : Summary) → Checked es (Ok s) → Known es s
+known es s (g, h, e) =
+    record { grammar = g; holds = h
+           ; words = sym (ap (λ (k : Summary). k .words) e); names = sym (ap (λ (k : Summary). k .names) e)
+           ; start = sym (ap (λ (k : Summary). k .start) e); rules = sym (ap (λ (k : Summary). k .rules) e)
+           ; takes = sym (ap (λ (k : Summary). k .used) e); has = sym (ap (λ (k : Summary). k .items) e) }
+
+pub known-bounds : {es : List ℕ} {s : Summary} → Known es s → (s .used ≤ 8192) × (s .items ≤ 4096) × (s .words ≤ 1024) × (s .names ≤ 1024) × (s .rules ≤ 2048) × (s .used ≤ length es)
+known-bounds {es} k =
+    let f = k .holds .fit in let g = k .grammar in
+    let a = k .takes in let b = k .has in let c = k .words in let d = k .names in let e = k .rules in
+    let m = f .small in let n = f .few in let w = f .words .1 in let v = f .names .1 in
+    ( omega (arith, used-bound g f), omega arith, omega arith, omega arith, omega arith
+    , omega (arith, ap length (k .holds .is), length-append (entries g) (k .holds .rest), length-append (header g (length (g .rules))) (joined rule-entries (g .rules))) )

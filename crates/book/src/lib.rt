@@ -2,8 +2,11 @@
 mod entries;
 mod fault;
 mod reader;
+mod writer;
 
 pub use fault::BookFault;
 pub use fault::Refusal;
 pub use reader::Summary;
 pub use reader::check;
+pub use writer::add;
+pub use writer::blank;
