@@ -5,3 +5,6 @@ pub mod Held
 pub mod Unique
 pub mod Writes
 pub mod Derivations
+pub mod Sides
+pub mod Places
+pub mod Walk

@@ -5,3 +5,4 @@ pub mod Tables
 pub mod Flaws
 pub mod Checks
 pub mod Edits
+pub mod Shapes

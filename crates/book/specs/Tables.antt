@@ -2,7 +2,7 @@
 use mathlib.Core.Path.{_≡_}
 use mathlib.Core.List.{List, [], _∷_, _++_}
 use Prim.Native.Nat.{ℕ, suc, _+_, _≤_, _<_}
-use lib.ListN.{length}
+use lib.ListN.{length, take}
 use Rattle.std.specs.shelf.Lists.{All, joined}
 use Rattle.book.specs.Grammar.{Rule, rule, Grammar, symbols}
 
@@ -48,6 +48,10 @@ entries g = header g (length (g .rules)) ++ joined rule-entries (g .rules)
 -- how many entries a grammar takes
 abbrev pub used : Grammar → ℕ
 used g = 4 + length (joined rule-entries (g .rules))
+
+-- where the rule of number i stands
+abbrev pub place : List Rule → ℕ → ℕ
+place rs i = 4 + length (joined rule-entries (take i rs))
 
 -- the table's header counts n rules, its first rules are those of g, and `rest` stands after them
 pub record Begins (t : List ℕ) (n : ℕ) (g : Grammar) (rest : List ℕ) : Type 0 where

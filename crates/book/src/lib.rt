@@ -1,11 +1,14 @@
 //! The phrase book: a context-free grammar in a table of 16-bit numbers, and its file.
 mod entries;
 mod fault;
+mod linear;
 mod reader;
 mod writer;
 
 pub use fault::BookFault;
 pub use fault::Refusal;
+pub use linear::Linearity;
+pub use linear::shape;
 pub use reader::Summary;
 pub use reader::check;
 pub use writer::add;
