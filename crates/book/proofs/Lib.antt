@@ -8,3 +8,4 @@ pub mod Derivations
 pub mod Sides
 pub mod Places
 pub mod Walk
+pub mod Filed

@@ -6,3 +6,4 @@ pub mod Flaws
 pub mod Checks
 pub mod Edits
 pub mod Shapes
+pub mod Files
