@@ -86,7 +86,7 @@ module _ (test : ℕ → Bool) where
   passing-has (suc n) k h e =
       ⊎-elim (λ l. Memᴰ·append-left _ (passing-has n k l e))
       (λ l. let q : k ≡ n = omega arith in
-        Memᴰ·append-right (passing test n) (subst (λ (b : Bool). List·Memᴰ k (cond b (n ∷ []) [])) (sym (ap test (sym q) ∙ e)) (List·Memᴰ·head q)))
+      Memᴰ·append-right (passing test n) (subst (λ (b : Bool). List·Memᴰ k (cond b (n ∷ []) [])) (sym (ap test (sym q) ∙ e)) (List·Memᴰ·head q)))
       (cases-lt k n)
 
   one-more : (n : ℕ) (b : Bool) → Ascending (passing test n) → Ascending (passing test n ++ cond b (n ∷ []) [])
@@ -119,6 +119,6 @@ passing-length p m (suc n) =
     ap (λ (x : ℕ). length (passing p x)) (add-suc m n)
     ∙ length-append (passing p (m + n)) (cond (p (m + n)) ((m + n) ∷ []) [])
     ∙ (let a = passing-length p m n in
-       let b = cond-length (p (m + n)) (m + n) n in
-       let c = length-append (passing (λ k. p (m + k)) n) (cond (p (m + n)) (n ∷ []) []) in
-       omega (arith, a, b, c))
+    let b = cond-length (p (m + n)) (m + n) n in
+    let c = length-append (passing (λ k. p (m + k)) n) (cond (p (m + n)) (n ∷ []) []) in
+    omega (arith, a, b, c))

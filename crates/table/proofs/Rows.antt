@@ -32,9 +32,9 @@ unfolding In
 in-below words row k h =
     ⊎-elim (λ l. l)
     (λ l.
-       let past : getD words (k / 64) 0 ≡ 0 = getD-past words (k / 64) 0 (omega (arith, row .0)) in
-       let off : bit (getD words (k / 64) 0) (k % 64) ≡ 0 = ap (λ (w : ℕ). bit w (k % 64)) past ∙ bit-zero (k % 64) in
-       absurd (omega (arith, off, h)))
+    let past : getD words (k / 64) 0 ≡ 0 = getD-past words (k / 64) 0 (omega (arith, row .0)) in
+    let off : bit (getD words (k / 64) 0) (k % 64) ≡ 0 = ap (λ (w : ℕ). bit w (k % 64)) past ∙ bit-zero (k % 64) in
+    absurd (omega (arith, off, h)))
     (cases-lt k 4096)
 
 pub members-in : (words : List ℕ) (k : ℕ) → List·Memᴰ k (members words) → In words k
@@ -115,11 +115,13 @@ module _ (ws : List ℕ) (row : Row ws) (k : ℕ) (small : k < 4096) where
   word-fits = or-lt 64 (getD ws (k / 64) 0) ((1 * 2 ^ (k % 64)) % 2 ^ 64) (row .1 (k / 64)) (subst (λ (x : ℕ). x < 2 ^ 64) (sym mask) (pow-below (k % 64) 64 (omega arith)))
 
   pub with-bit-row : Row (with-bit ws k)
-  with-bit-row =
-      (length-set ws (k / 64) _ ∙ row .0, λ i. ⊎-elim
-      (λ e. subst (λ (x : ℕ). x < 2 ^ 64) (sym (ap (λ (j : ℕ). getD (with-bit ws k) j 0) (e .1) ∙ getD-set-same ws (k / 64) _ 0 place)) word-fits)
-      (λ e. subst (λ (x : ℕ). x < 2 ^ 64) (sym (getD-set-other ws (k / 64) i _ 0 (e .1))) (row .1 i))
-      (eqb-tells i (k / 64)))
+  with-bit-row = (
+    length-set ws (k / 64) _ ∙ row .0,
+    λ i. ⊎-elim
+        (λ e. subst (λ (x : ℕ). x < 2 ^ 64) (sym (ap (λ (j : ℕ). getD (with-bit ws k) j 0) (e .1) ∙ getD-set-same ws (k / 64) _ 0 place)) word-fits)
+        (λ e. subst (λ (x : ℕ). x < 2 ^ 64) (sym (getD-set-other ws (k / 64) i _ 0 (e .1))) (row .1 i))
+        (eqb-tells i (k / 64)),
+  )
 
   bit-here : bitOf (with-bit ws k) k ≡ 1
   bit-here =
@@ -131,10 +133,10 @@ module _ (ws : List ℕ) (row : Row ws) (k : ℕ) (small : k < 4096) where
   bit-elsewhere j ne =
       ⊎-elim
       (λ e. let q : j / 64 ≡ k / 64 = e .1 in
-            let nb : j % 64 ≡ k % 64 → ⊥ = λ (x : j % 64 ≡ k % 64). ne (omega arith) in
-            let off : bit ((1 * 2 ^ (k % 64)) % 2 ^ 64) (j % 64) ≡ 0 = ap (λ (x : ℕ). bit x (j % 64)) mask ∙ bit-pow-other (k % 64) (j % 64) nb in
-            let top : max (bit (getD ws (k / 64) 0) (j % 64)) (bit ((1 * 2 ^ (k % 64)) % 2 ^ 64) (j % 64)) ≡ bit (getD ws (k / 64) 0) (j % 64) = omega (arith, off) in
-            rw q (ap (λ (x : ℕ). bit x (j % 64)) (getD-set-same ws (k / 64) _ 0 place) ∙ bit-or (getD ws (k / 64) 0) _ (j % 64) ∙ top))
+      let nb : j % 64 ≡ k % 64 → ⊥ = λ (x : j % 64 ≡ k % 64). ne (omega arith) in
+      let off : bit ((1 * 2 ^ (k % 64)) % 2 ^ 64) (j % 64) ≡ 0 = ap (λ (x : ℕ). bit x (j % 64)) mask ∙ bit-pow-other (k % 64) (j % 64) nb in
+      let top : max (bit (getD ws (k / 64) 0) (j % 64)) (bit ((1 * 2 ^ (k % 64)) % 2 ^ 64) (j % 64)) ≡ bit (getD ws (k / 64) 0) (j % 64) = omega (arith, off) in
+      rw q (ap (λ (x : ℕ). bit x (j % 64)) (getD-set-same ws (k / 64) _ 0 place) ∙ bit-or (getD ws (k / 64) 0) _ (j % 64) ∙ top))
       (λ e. ap (λ (x : ℕ). bit x (j % 64)) (getD-set-other ws (k / 64) (j / 64) _ 0 (e .1)))
       (eqb-tells (j / 64) (k / 64))
 
@@ -144,7 +146,8 @@ module _ (ws : List ℕ) (row : Row ws) (k : ℕ) (small : k < 4096) where
       record {
         added = λ _. bit-here;
         kept = λ j h. ⊎-elim (λ e. ap (bitOf (with-bit ws k)) (e .1) ∙ bit-here) (λ e. bit-elsewhere j (e .1) ∙ h) (eqb-tells j k);
-        only = λ j h. ⊎-elim (λ e. inr (e .1, small)) (λ e. inl (sym (bit-elsewhere j (e .1)) ∙ h)) (eqb-tells j k) }
+        only = λ j h. ⊎-elim (λ e. inr (e .1, small)) (λ e. inl (sym (bit-elsewhere j (e .1)) ∙ h)) (eqb-tells j k);
+      }
 
 pub inserted-as : {ws vs : List ℕ} {k j : ℕ} → k ≡ j → Inserted ws k vs → Inserted ws j vs
 inserted-as {ws} {vs} e h = subst (λ (k : ℕ). Inserted ws k vs) e h
@@ -168,7 +171,7 @@ count-more words row i =
     let test : ℕ → Bool = λ (k : ℕ). eqb (bitOf words k) 1 in
     let whole : getD words i 0 % 2 ^ 64 ≡ getD words i 0 = (let f = row .1 i in omega arith) in
     let here : (b : ℕ) → b < 64 → eqb (bitOf words (64 * i + b)) 1 ≡ eqb (bit (getD words i 0) b) 1 =
-        λ (b : ℕ) (h : b < 64). (let q : (64 * i + b) / 64 ≡ i = omega arith in let m : (64 * i + b) % 64 ≡ b = omega arith in rw (q, m) refl) in
+    λ (b : ℕ) (h : b < 64). (let q : (64 * i + b) / 64 ≡ i = omega arith in let m : (64 * i + b) % 64 ≡ b = omega arith in rw (q, m) refl) in
     ap (countBelow words) (let e : 64 * (i + 1) ≡ 64 * i + 64 = omega arith in e)
     ∙ passing-length (λ (k : ℕ). eqb (bitOf words k) 1) (64 * i) 64
     ∙ ap (λ (x : ℕ). countBelow words (64 * i) + x) (ap length (passing-same (λ b. eqb (bitOf words (64 * i + b)) 1) (λ b. eqb (bit (getD words i 0) b) 1) 64 here) ∙ passing-ones (getD words i 0) 64 ∙ ap ones whole)
@@ -197,19 +200,23 @@ module _ (words : List ℕ) (row : Row words) (from : ℕ) where
   in-word t one =
       ⊎-elim (λ l. l)
       (λ l. let off : bit (getD words (from / 64) 0) (from % 64 + t) ≡ 0 = bit-high (getD words (from / 64) 0) 64 (from % 64 + t) (row .1 (from / 64)) l in
-            let e = bit-shr (getD words (from / 64) 0) (from % 64) t in
-            absurd (omega (arith, e, off, one)))
+      let e = bit-shr (getD words (from / 64) 0) (from % 64) t in
+      absurd (omega (arith, e, off, one)))
       (cases-lt (from % 64 + t) 64)
 
   -- the lowest bit of what is left of its word is the next member
   pub next-here : from < 4096 → (t : ℕ) → Lowest 64 (getD words (from / 64) 0 / 2 ^ (from % 64)) t → NextMember words from (Some (from + t))
   unfolding In
   next-here small t low =
-      let room = in-word t (low .1) in
-      (omega arith, omega arith, bit-rest t room ∙ low .1, λ j l u m.
-       let e : from + (j - from) ≡ j = omega arith in
-       let z : bitOf words j ≡ 0 = ap (bitOf words) (sym e) ∙ bit-rest (j - from) (omega arith) ∙ low .2 (j - from) (omega arith) in
-       omega (arith, z, m))
+      let room = in-word t (low .1) in (
+        omega arith,
+        omega arith,
+        bit-rest t room ∙ low .1,
+        λ j l u m.
+            let e : from + (j - from) ≡ j = omega arith in
+            let z : bitOf words j ≡ 0 = ap (bitOf words) (sym e) ∙ bit-rest (j - from) (omega arith) ∙ low .2 (j - from) (omega arith) in
+            omega (arith, z, m),
+      )
 
   -- nothing is left of its word
   pub next-later : getD words (from / 64) 0 / 2 ^ (from % 64) ≡ 0 → (r : Option ℕ) → NextMember words (64 * (from / 64 + 1)) r → NextMember words from r
@@ -217,9 +224,9 @@ module _ (words : List ℕ) (row : Row words) (from : ℕ) where
   next-later none-left r next =
       next-down words from (64 * (from / 64 + 1)) (omega arith)
       (λ k l u m.
-         let e : from + (k - from) ≡ k = omega arith in
-         let z : bitOf words k ≡ 0 = ap (bitOf words) (sym e) ∙ bit-rest (k - from) (omega arith) ∙ ap (λ (x : ℕ). bit x (k - from)) none-left ∙ bit-zero (k - from) in
-         omega (arith, z, m))
+      let e : from + (k - from) ≡ k = omega arith in
+      let z : bitOf words k ≡ 0 = ap (bitOf words) (sym e) ∙ bit-rest (k - from) (omega arith) ∙ ap (λ (x : ℕ). bit x (k - from)) none-left ∙ bit-zero (k - from) in
+      omega (arith, z, m))
       r next
 
 -- the lowest bit of a whole word

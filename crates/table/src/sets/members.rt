@@ -14,7 +14,10 @@ impl<N: Number> NumberSet<N> {
     pub fn empty() -> NumberSet<N>
         ensures { λ r. ⌜ ((k : ℕ) → In (r .words) k → ⊥) ⌝ }
     {
-        NumberSet { words: [0; 64], sort: PhantomData }
+        NumberSet {
+            words: [0; 64],
+            sort: PhantomData,
+        }
     }
 
     /// Whether `n` is a member.
