@@ -11,6 +11,11 @@ use Rattle.finding.specs.declared.moves.Move.{Move}
 use Rattle.finding.specs.Finding.{Search, Bounded, Place, within, stands, place, arrow, Turn, Turns, Stopped, TurnedTo, Finding, Whole, Refused}
 use Rattle.finding.specs.Finding.Turns.{stay, more}
 use Rattle.finding.specs.Finding.Refused.{empty, met}
+use Rattle.std.specs.declared.result.Result.the-variants.{Ok, Err}
+use Rattle.finding.specs.declared.moves.Count.{Count}
+use Rattle.finding.specs.Spaces.{Answered}
+use Rattle.finding.proofs.Functional.{whole-or-refused, refused-same}
+use Rattle.finding.proofs.Lawful.{whole-numbered}
 use Rattle.finding.proofs.Visiting.{joins}
 
 pub goes-on : {A : Type 0} {v w : Bounded A} {p q r : Place A} → Turns w p q → v ≡ w → Turns v q r → Turns w p r
@@ -37,3 +42,12 @@ module _ {E A N : Type 0} (f : E → A) (v : N → ℕ) (rows : List E) (n : ℕ
       let here : TurnedTo w (stands f v rows n moves m i 0) s = subst (λ (y : Bounded A). TurnedTo y (stands f v rows n moves m i 0) s) e t in
       let z : TurnedTo w₀ (place (start ∷ []) [] 0 0) s = subst (λ (y : Bounded A). TurnedTo y (place (start ∷ []) [] 0 0) s) same (here .0, joins turns (here .1), here .2) in
       met (z .0) (room, z .1) (z .2)
+
+-- ---- what a search answers, from how it ended
+
+module _ {E A N : Type 0} {b : Bounded A} {start : A} (f : E → A) (v : N → ℕ) (rows : List E) (moves : List (Move N)) where
+  pub whole-answers : (c : Count) → Whole b start (map f (take (c .entries) rows)) (map (arrow v) (take (c .moves) moves)) → Answered b start f v rows moves (Ok c)
+  whole-answers c w = record { found = w; numbered = whole-numbered start w; only = λ stop r. whole-or-refused w r }
+
+  pub refused-answers : {s : Stop} → Refused b start s → Answered b start f v rows moves (Err s)
+  refused-answers r = record { found = r; numbered = λ es ms w. whole-or-refused w r; only = λ stop q. refused-same q r }

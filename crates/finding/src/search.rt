@@ -57,3 +57,49 @@ fn take_move<S: Space, N: Number>(space: &mut S, rows: &mut [S::Entry], moves: &
     moves[found.moves] = Move { from: N::from_index(i), symbol: x, to: N::from_index(to) };
     Ok(Count { entries, moves: found.moves + 1 })
 }
+
+/// Takes the moves of entry `i`, symbols upward.
+fn visit<S: Space, N: Number>(space: &mut S, rows: &mut [S::Entry], moves: &mut [Move<N>], mut found: Count, i: usize) -> Result<Count, Stop>
+    requires exact { ⌜ Exact (Entry·PartialEq .equals) ⌝ }
+    requires held { ⌜ Held (S·Space .ready (now space)) (now rows) (now moves) found ⌝ }
+    requires short { ⌜ length (now rows) ≤ 65536 ⌝ }
+    requires here { ⌜ i < found .entries ⌝ }
+    ensures source { λ _. ⌜ S·Space .source (now (space .exit)) ≡ S·Space .source (now (space .entry)) ⌝ }
+    ensures held { λ r. ⌜ Cases r (λ c. Held (S·Space .ready (now (space .exit))) (now (rows .exit)) (now (moves .exit)) c × (found .entries ≤ c .entries)) (λ _. Unit {0}) ⌝ }
+    ensures turns { λ r. ⌜ Cases r
+            (λ c. Turns (within (S·Space .search (S·Space .source (now (space .entry)))) (length (now (rows .entry))) (length (now (moves .entry))))
+                (stands (S·Space .thing (now (space .entry))) (N·Number .value) (now (rows .entry)) (found .entries) (now (moves .entry)) (found .moves) i 0)
+                (stands (S·Space .thing (now (space .exit))) (N·Number .value) (now (rows .exit)) (c .entries) (now (moves .exit)) (c .moves) (i + 1) 0))
+            (λ s. TurnedTo (within (S·Space .search (S·Space .source (now (space .entry)))) (length (now (rows .entry))) (length (now (moves .entry))))
+                (stands (S·Space .thing (now (space .entry))) (N·Number .value) (now (rows .entry)) (found .entries) (now (moves .entry)) (found .moves) i 0) s) ⌝ }
+{
+    let mut x = 0;
+    while let Some(y) = space.next_symbol(rows[i], x) {
+        found = take_move(space, rows, moves, found, i, y)?;
+        x = y + 1;
+    }
+    Ok(found)
+}
+
+/// Numbers what is found from `start` in tables that are as long as they may be.
+fn number_all<S: Space, N: Number>(space: &mut S, start: S::Entry, rows: &mut [S::Entry], moves: &mut [Move<N>]) -> Result<Count, Stop>
+    requires exact { ⌜ Exact (Entry·PartialEq .equals) ⌝ }
+    requires ready { ⌜ S·Space .ready (now space) (start ∷ []) ⌝ }
+    requires short { ⌜ length (now rows) ≤ 65536 ⌝ }
+    ensures source { λ _. ⌜ S·Space .source (now (space .exit)) ≡ S·Space .source (now (space .entry)) ⌝ }
+    ensures held { λ r. ⌜ Cases r (λ c. Held (S·Space .ready (now (space .exit))) (now (rows .exit)) (now (moves .exit)) c) (λ _. Unit {0}) ⌝ }
+    ensures answer { λ r. ⌜ Answered (within (S·Space .search (S·Space .source (now (space .entry)))) (length (now (rows .entry))) (length (now (moves .entry))))
+            (S·Space .thing (now (space .entry)) start) (S·Space .thing (now (space .exit))) (N·Number .value) (now (rows .exit)) (now (moves .exit)) r ⌝ }
+{
+    if rows.len() == 0 {
+        return Err(Stop::Entry(0));
+    }
+    rows[0] = start;
+    let mut found = Count { entries: 1, moves: 0 };
+    let mut i = 0;
+    while i < found.entries {
+        found = visit(space, rows, moves, found, i)?;
+        i += 1;
+    }
+    Ok(found)
+}
