@@ -4,3 +4,4 @@ pub mod Taking
 pub mod Visiting
 pub mod Starting
 pub mod Plain
+pub mod Limited

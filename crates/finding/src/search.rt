@@ -103,3 +103,18 @@ fn number_all<S: Space, N: Number>(space: &mut S, start: S::Entry, rows: &mut [S
     }
     Ok(found)
 }
+
+/// Numbers what is found from `start`, taking entries by number and symbols upward, within the limits; a shorter table is the limit instead.
+pub fn number<S: Space, N: Number>(space: &mut S, start: S::Entry, rows: &mut [S::Entry], moves: &mut [Move<N>], limits: Limits) -> Result<Count, Stop>
+    requires exact { ⌜ Exact (Entry·PartialEq .equals) ⌝ }
+    requires ready { ⌜ S·Space .ready (now space) (start ∷ []) ⌝ }
+    requires short { ⌜ limits .entries ≤ 65536 ⌝ }
+    ensures source { λ _. ⌜ S·Space .source (now (space .exit)) ≡ S·Space .source (now (space .entry)) ⌝ }
+    ensures held { λ r. ⌜ Cases r (λ c. Held (S·Space .ready (now (space .exit))) (now (rows .exit)) (now (moves .exit)) c) (λ _. Unit {0}) ⌝ }
+    ensures answer { λ r. ⌜ Answered (within (S·Space .search (S·Space .source (now (space .entry)))) (min (length (now (rows .entry))) (limits .entries)) (min (length (now (moves .entry))) (limits .moves)))
+            (S·Space .thing (now (space .entry)) start) (S·Space .thing (now (space .exit))) (N·Number .value) (now (rows .exit)) (now (moves .exit)) r ⌝ }
+{
+    let most = rows.len().min(limits.entries);
+    let most_moves = moves.len().min(limits.moves);
+    number_all(space, start, &mut rows[0..most], &mut moves[0..most_moves])
+}
