@@ -23,11 +23,23 @@ module _ {A : Type 0} (R : A → A → Type 0) where
       (λ p′. ⊎-elim (λ q′. let b = stands-below ts k v q′ in absurd (omega arith)) (λ q′. absurd (omega arith)) (stands-push ts u v k q))
       (stands-push ts u t j p)
 
+  pub in-order-cons : (t : A) (ts : List A) → ((u : A) → List·Memᴰ u ts → R t u) → InOrder R ts → InOrder R (t ∷ ts)
+  in-order-cons t ts h o j zero u v l p q = absurd (omega arith)
+  in-order-cons t ts h o zero (suc k) u v l p q = let e : t ≡ u = cc in subst (λ w. R w v) e (h v (mem-at ts k v q))
+  in-order-cons t ts h o (suc j) (suc k) u v l p q = o j k u v (omega arith) p q
+
   pub in-order-tail : (t : A) (ts : List A) → InOrder R (t ∷ ts) → InOrder R ts
   in-order-tail t ts o j k u v h p q = o (suc j) (suc k) u v (omega arith) p q
 
   pub in-order-head : (t : A) (ts : List A) → InOrder R (t ∷ ts) → (u : A) → List·Memᴰ u ts → R t u
   in-order-head t ts o u m = let r = at-mem ts u m in o 0 (suc (r .0)) t u (omega arith) refl (r .1)
+
+  pub in-order-append : (ts us : List A) → InOrder R ts → InOrder R us → ((t u : A) → List·Memᴰ t ts → List·Memᴰ u us → R t u) → InOrder R (ts ++ us)
+  in-order-append [] us o p h = p
+  in-order-append (t ∷ ts) us o p h =
+      in-order-cons t (ts ++ us)
+      (λ u m. ⊎-elim (in-order-head t ts o u) (h t u (List·Memᴰ·head refl)) (List·Memᴰ·append-cases ts m))
+      (in-order-append ts us (in-order-tail t ts o) p (λ v u m. h v u (List·Memᴰ·tail m)))
 
   -- two lists in order with the same members are one
   module _ (apart : (x y : A) → R x y → R y x → ⊥) where
