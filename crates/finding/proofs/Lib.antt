@@ -1,0 +1,9 @@
+pub mod Unique
+pub mod Laws
+pub mod Functional
+pub mod Lawful
+pub mod Taking
+pub mod Visiting
+pub mod Starting
+pub mod Limited
+pub mod Plain

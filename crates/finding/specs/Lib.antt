@@ -1,1 +1,4 @@
 pub mod Numbered
+pub mod Laws
+pub mod Finding
+pub mod Spaces
