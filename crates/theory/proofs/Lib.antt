@@ -1,0 +1,4 @@
+pub mod Lists
+pub mod Saturated
+pub mod Items
+pub mod Closure

@@ -52,3 +52,13 @@ goto g set x = let all = items g in elim (carried all set x) [ [] ↦ none | k �
 -- the closure of S' → · start
 abbrev pub initial : Grammar → List ℕ
 initial g = closure g (0 ∷ [])
+
+-- item number k is the carried form of an item of the set that has x after its dot
+pub record Carried (g : Grammar) (set : List ℕ) (x k : ℕ) : Type 0 where
+  pub from : ℕ
+  pub member : List·Memᴰ from set
+  pub left : ℕ
+  pub before : List ℕ
+  pub after : List ℕ
+  pub item : Dotted g from left before (x ∷ after)
+  pub number : k ≡ suc from

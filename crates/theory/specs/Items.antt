@@ -64,3 +64,8 @@ pub record Sound (g : Grammar) : Type 0 where
   pub lefts-named : (r : Rule) → List·Memᴰ r (g .rules) → g .words ≤ r .left
   pub lefts-known : (r : Rule) → List·Memᴰ r (g .rules) → r .left < symbols g
   pub rights-known : (r : Rule) → List·Memᴰ r (g .rules) → All (λ x. x < symbols g) (r .right)
+
+-- which item stands at number k: S' → m · s, or the rule at place i with its dot after m
+pub data Numbers (g : Grammar) (k a : ℕ) (m s : List ℕ) : Type 0 where
+  added : k ≡ length m → a ≡ symbols g → m ++ s ≡ g .start ∷ [] → Numbers g k a m s
+  ruled : (i : ℕ) (r : Rule) → getElem? (g .rules) i ≡ some r → k ≡ first-item g i + length m → a ≡ r .left → m ++ s ≡ r .right → Numbers g k a m s
