@@ -2,3 +2,4 @@ pub mod Lists
 pub mod Saturated
 pub mod Items
 pub mod Closure
+pub mod Numbering

@@ -3,3 +3,7 @@ pub mod Items
 pub mod Closure
 pub mod Machine
 pub mod Policies
+pub mod Unfolding
+pub mod Flattening
+pub mod Sentences
+pub mod Laws

@@ -1,0 +1,75 @@
+-- The flattened acceptor of a grammar under a policy.
+use mathlib.Core.Path.{_≡_}
+use mathlib.Core.Logic.{_↔_}
+use mathlib.Core.List.{List, [], _∷_, List·Memᴰ}
+use Prim.Native.Nat.{ℕ, _<_}
+use lib.ListN.{length}
+use Rattle.book.specs.Grammar.{Grammar, symbols, Rewrites}
+use Rattle.finding.specs.Numbered.{Arrow}
+use Rattle.theory.specs.Lists.{Ascending}
+use Rattle.theory.specs.Machine.{Machine}
+use Rattle.theory.specs.Policies.{Meaning}
+use Rattle.theory.specs.Unfolding.{Node, Unfolded, NodeHolds, FinalNode}
+
+-- how many words and nodes there are, the final node, the arcs (from, word, to) and the jumps (from, to)
+pub record Acceptor : Type 0 where
+  pub words : ℕ
+  pub nodes : ℕ
+  pub final : ℕ
+  pub arcs : List Arrow
+  pub jumps : List (ℕ × ℕ)
+
+-- moves lead from one number to another over a list of symbols
+pub data Leads (moves : List Arrow) : ℕ → List ℕ → ℕ → Type 0 where
+  here : {p : ℕ} → Leads moves p [] p
+  on : {q r p x : ℕ} {xs : List ℕ} → List·Memᴰ (q, x, r) moves → Leads moves r xs p → Leads moves q (x ∷ xs) p
+
+-- p holds a completed rule, some node leads over its right side to p, and that node moves over its left to `to`
+pub record Jump (g : Grammar) (states : List (List ℕ)) (nodes : List Node) (moves : List Arrow) (p to : ℕ) : Type 0 where
+  pub left : ℕ
+  pub side : List ℕ
+  pub from : ℕ
+  pub rewrites : Rewrites g left side
+  pub item : NodeHolds g states nodes p left side []
+  pub leads : Leads moves from side p
+  pub over : List·Memᴰ (from, left, to) moves
+
+-- the same found going forward: a node holds a rule with its dot in front, leads over its right side, and moves over its left
+pub record ForwardJump (g : Grammar) (states : List (List ℕ)) (nodes : List Node) (moves : List Arrow) (p to : ℕ) : Type 0 where
+  pub left : ℕ
+  pub side : List ℕ
+  pub from : ℕ
+  pub rewrites : Rewrites g left side
+  pub item : NodeHolds g states nodes from left [] side
+  pub leads : Leads moves from side p
+  pub over : List·Memᴰ (from, left, to) moves
+
+-- by the entry left, then the symbol
+pub data ArrowLess : Arrow → Arrow → Type 0 where
+  by-from : {q x p r y o : ℕ} → q < r → ArrowLess (q, x, p) (r, y, o)
+  by-symbol : {q x p r y o : ℕ} → q ≡ r → x < y → ArrowLess (q, x, p) (r, y, o)
+
+-- by the node left, then the node reached
+pub data JumpLess : ℕ × ℕ → ℕ × ℕ → Type 0 where
+  by-from : {q p r o : ℕ} → q < r → JumpLess (q, p) (r, o)
+  by-to : {q p r o : ℕ} → q ≡ r → p < o → JumpLess (q, p) (r, o)
+
+-- the acceptor of an unfolded machine: its arcs are the moves on words, its jumps stand for the completed rules
+pub record FlattenedFrom (g : Grammar) (states : List (List ℕ)) (nodes : List Node) (moves : List Arrow) (f : Acceptor) : Type 0 where
+  pub words-are : f .words ≡ g .words
+  pub nodes-are : f .nodes ≡ length nodes
+  pub final-is : FinalNode states nodes (f .final)
+  pub arcs-are : (q x p : ℕ) → List·Memᴰ (q, x, p) (f .arcs) ↔ (List·Memᴰ (q, x, p) moves × (x < g .words))
+  pub arcs-rise : Ascending ArrowLess (f .arcs)
+  pub jumps-are : (p to : ℕ) → List·Memᴰ (p, to) (f .jumps) ↔ Jump g states nodes moves p to
+  pub jumps-rise : Ascending JumpLess (f .jumps)
+
+-- f is the flattened acceptor of the grammar g under a policy that means m
+pub record Flattened (g : Grammar) (m : Meaning) (f : Acceptor) : Type 0 where
+  pub states : List (List ℕ)
+  pub moves : List Arrow
+  pub nodes : List Node
+  pub unfolded-moves : List Arrow
+  pub machine : Machine g states moves
+  pub unfolded : Unfolded m moves (symbols g) nodes unfolded-moves
+  pub flat : FlattenedFrom g states nodes unfolded-moves f
