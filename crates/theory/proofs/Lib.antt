@@ -3,3 +3,5 @@ pub mod Saturated
 pub mod Items
 pub mod Closure
 pub mod Numbering
+pub mod Graphs
+pub mod Machine

@@ -304,4 +304,4 @@ module _ {A : Type 0} {step : A → ℕ → Option A} {symbols : List ℕ} {star
       let p′ : getElem? es i ≡ some a = ap (λ k. getElem? k i) q ∙ at-left before (e ∷ after) i p in
       let (k, v, z) = step-made p′ m s in
       let kj : k ≡ j = place-one {j = k} {k = j} z g in
-      record { from = i; symbol = x; earlier = (let b = at-below before i p in omega arith); move = subst (λ y. List·Memᴰ (i, x, y) ms) kj v }
+      record { from = i; symbol = x; earlier = (let b = at-below before i p in omega arith); move = subst (λ y. List·Memᴰ (i, x, y) ms) {x = k} kj v }
