@@ -2,10 +2,10 @@
 use mathlib.Core.Path.{_≡_, refl, sym, ap, subst, _∙_}
 use mathlib.Core.Logic.{_↔_}
 use mathlib.Core.List.{List, [], _∷_, _++_, append-assoc, append-nil, List·Memᴰ}
-use Prim.Native.Nat.{ℕ}
+use Prim.Native.Nat.{ℕ, _<_}
 use Rattle.book.specs.Grammar.{Grammar, symbols, Rewrites}
 use Rattle.finding.specs.Numbered.{Arrow}
-use Rattle.theory.specs.Flattening.{Leads}
+use Rattle.theory.specs.Flattening.{Acceptor, Leads}
 use Rattle.theory.specs.Flattening.Leads.{here, on}
 
 -- items by content: left, before the dot, after it
@@ -37,13 +37,16 @@ pub record Graph : Type 1 where
   pub Item : ℕ → ℕ → List ℕ → List ℕ → Type 0
   pub moves : List Arrow
 
+abbrev pub Move : Graph → ℕ → ℕ → ℕ → Type 0
+Move G q x p = List·Memᴰ (q, x, p) (G .moves)
+
 -- items and moves are those of a characteristic machine, each state once or more
 pub record Lawful (g : Grammar) (G : Graph) : Type 0 where
   pub zeroth-items : {a : ℕ} {l r : List ℕ} → G .Item 0 a l r ↔ Closes g (Outset g) a l r
-  pub move-items : {p q x a : ℕ} {l r : List ℕ} → List·Memᴰ (q, x, p) (G .moves) → G .Item p a l r ↔ Closes g (Over (G .Item q) x) a l r
-  pub move-when : {q x a : ℕ} {l r : List ℕ} → G .Item q a l (x ∷ r) → (p : ℕ) × List·Memᴰ (q, x, p) (G .moves)
-  pub move-only : {q p x : ℕ} → List·Memᴰ (q, x, p) (G .moves) → (a : ℕ) × (l : List ℕ) × (r : List ℕ) × G .Item q a l (x ∷ r)
-  pub reached : {q p x : ℕ} → List·Memᴰ (q, x, p) (G .moves) → (way : List ℕ) × Leads (G .moves) 0 way q
+  pub move-items : {p q x a : ℕ} {l r : List ℕ} → Move G q x p → G .Item p a l r ↔ Closes g (Over (G .Item q) x) a l r
+  pub move-when : {q x a : ℕ} {l r : List ℕ} → G .Item q a l (x ∷ r) → (p : ℕ) × Move G q x p
+  pub move-only : {q p x : ℕ} → Move G q x p → (a : ℕ) × (l : List ℕ) × (r : List ℕ) × G .Item q a l (x ∷ r)
+  pub reached : {q p x : ℕ} → Move G q x p → (way : List ℕ) × Leads (G .moves) 0 way q
 
 -- a completed rule at p, taken back from a place that leads over it to p
 pub record Returns (g : Grammar) (G : Graph) (p to : ℕ) : Type 0 where
@@ -53,7 +56,12 @@ pub record Returns (g : Grammar) (G : Graph) (p to : ℕ) : Type 0 where
   pub rewrites : Rewrites g left side
   pub item : G .Item p left side []
   pub leads : Leads (G .moves) from side p
-  pub over : List·Memᴰ (from, left, to) (G .moves)
+  pub over : Move G from left to
+
+-- the acceptor has the moves on words as arcs, and the completed rules as jumps
+pub record Flat (g : Grammar) (G : Graph) (f : Acceptor) : Type 0 where
+  pub arcs : (q x p : ℕ) → List·Memᴰ (q, x, p) (f .arcs) ↔ (Move G q x p × (x < g .words))
+  pub jumps : (p to : ℕ) → List·Memᴰ (p, to) (f .jumps) ↔ Returns g G p to
 
 -- ── ways ──
 

@@ -5,3 +5,9 @@ pub mod Closure
 pub mod Numbering
 pub mod Graphs
 pub mod Machine
+pub mod Steps
+pub mod Trees
+pub mod Superset
+pub mod Begun
+pub mod LeftExact
+pub mod RightExact
