@@ -13,12 +13,8 @@ use Rattle.theory.proofs.Graphs.Closes.{kernel, opened}
 use Rattle.theory.proofs.Graphs.Way.{from, over}
 use Rattle.theory.proofs.Begun.{Ruled, ruled, Begun, begun}
 use Rattle.theory.proofs.Begun.Ruled.{added, given}
+use Rattle.theory.proofs.Lists.{snoc-not-nil}
 use Rattle.theory.proofs.Steps.{step-last, derives-front, sentence-at}
-
--- a list with a last element is not empty
-snoc-not-nil : (xs : List ℕ) (x : ℕ) → xs ++ (x ∷ []) ≡ [] → ⊥
-snoc-not-nil [] x e = let z : _≡_ {A = ℕ} 0 1 = cc in omega arith
-snoc-not-nil (y ∷ ys) x e = let z : _≡_ {A = ℕ} 0 1 = cc in omega arith
 
 module _ {g : Grammar} {G : Graph} (m : Lawful g G) (linear : LeftLinear g) where
   -- past the first symbol of a right side stands no name

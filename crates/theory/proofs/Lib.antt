@@ -11,3 +11,4 @@ pub mod Superset
 pub mod Begun
 pub mod LeftExact
 pub mod RightExact
+pub mod States

@@ -120,6 +120,11 @@ pub all-from-mem : {A : Type 0} (P : A → Type 0) (xs : List A) → ((x : A) �
 all-from-mem P [] h = tt
 all-from-mem P (y ∷ ys) h = (h y (List·Memᴰ·head refl), all-from-mem P ys (λ x m. h x (List·Memᴰ·tail m)))
 
+-- a list with a last element is not empty
+pub snoc-not-nil : {A : Type 0} (xs : List A) (x : A) → xs ++ (x ∷ []) ≡ [] → ⊥
+snoc-not-nil [] x e = let z : _≡_ {A = ℕ} 0 1 = cc in omega arith
+snoc-not-nil (y ∷ ys) x e = let z : _≡_ {A = ℕ} 0 1 = cc in omega arith
+
 -- ── strictly ascending lists ──
 
 pub ascending-push : {A : Type 0} (less : A → A → Type 0) (xs : List A) (x : A) → Ascending less xs → All (λ y. less y x) xs → Ascending less (xs ++ (x ∷ []))

@@ -19,7 +19,7 @@ use Rattle.theory.proofs.Numbering.{entry-zero, entry-left, move-made, step-ma
 use Rattle.theory.proofs.Graphs.{Closes, Outset, Over}
 use Rattle.theory.proofs.Graphs.Closes.{kernel as c-kernel, opened as c-opened}
 
-same-item : (g : Grammar) (k : ℕ) {a b : ℕ} {l m r s : List ℕ} → Dotted g k a l r → Dotted g k b m s → item a l r ≡ item b m s
+pub same-item : (g : Grammar) (k : ℕ) {a b : ℕ} {l m r s : List ℕ} → Dotted g k a l r → Dotted g k b m s → item a l r ≡ item b m s
 same-item g k d e = some-one d e
 
 -- ── closure by number and by content ──
