@@ -12,3 +12,4 @@ pub mod Begun
 pub mod LeftExact
 pub mod RightExact
 pub mod States
+pub mod Unfolding

@@ -3,10 +3,10 @@ use mathlib.Core.Path.{_≡_}
 use mathlib.Core.Bool.{true, false}
 use mathlib.Core.Option.{Option, none, some}
 use mathlib.Core.List.{List, [], _∷_, List·Memᴰ}
-use Prim.Native.Nat.{ℕ}
+use Prim.Native.Nat.{ℕ, _<_}
 use lib.Dec.{eqb}
-use lib.ListN.{getElem?}
-use Rattle.book.specs.Grammar.{Grammar}
+use lib.ListN.{length, getElem?}
+use Rattle.book.specs.Grammar.{Grammar, symbols}
 use Rattle.finding.specs.Numbered.{Arrow, upto, Numbered}
 use Rattle.theory.specs.Lists.{and}
 use Rattle.theory.specs.Machine.{Holds, FinalState}
@@ -51,3 +51,16 @@ pub record StackOf (m : Meaning) (moves : List Arrow) (nodes : List Node) (p : �
   pub at : getElem? nodes p ≡ some its
   pub stack : List (ℕ × ℕ)
   pub stacked : Stacked moves m stack (its .state) (its .class)
+
+-- what the flattening relies on
+pub record UnfoldingLaws (g : Grammar) (m : Meaning) (states : List (List ℕ)) (moves : List Arrow) (nodes : List Node) (unfolded-moves : List Arrow) : Type 0 where
+  -- node 0 is state 0 with the empty stack's class, and no other node has state 0
+  pub zeroth : getElem? nodes 0 ≡ some (node 0 (m .first))
+  pub zero-alone : (p : ℕ) (n : Node) → getElem? nodes p ≡ some n → n .state ≡ 0 → p ≡ 0
+  -- each node is reached by a stack with its class
+  pub stacks : (p : ℕ) → p < length nodes → StackOf m moves nodes p
+  -- the final state has one node
+  pub final : (p : ℕ) × List·Memᴰ (0, g .start, p) unfolded-moves × FinalNode states nodes p
+  pub final-one : (p q : ℕ) → FinalNode states nodes p → FinalNode states nodes q → p ≡ q
+  -- a machine has one unfolding under a policy
+  pub one : (others : List Node) (arrows : List Arrow) → Unfolded m moves (symbols g) others arrows → (nodes ≡ others) × (unfolded-moves ≡ arrows)
