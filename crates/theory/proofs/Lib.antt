@@ -13,3 +13,6 @@ pub mod LeftExact
 pub mod RightExact
 pub mod States
 pub mod Unfolding
+pub mod Finer
+pub mod Flattening
+pub mod Laws

@@ -1,6 +1,6 @@
 -- The flattened acceptor of a grammar under a policy.
 use mathlib.Core.Path.{_≡_}
-use mathlib.Core.Logic.{_↔_}
+use mathlib.Core.Logic.{_↔_, _⊎_}
 use mathlib.Core.List.{List, [], _∷_, List·Memᴰ}
 use Prim.Native.Nat.{ℕ, _<_}
 use lib.ListN.{length}
@@ -44,15 +44,13 @@ pub record ForwardJump (g : Grammar) (states : List (List ℕ)) (nodes : List No
   pub leads : Leads moves from side p
   pub over : List·Memᴰ (from, left, to) moves
 
--- by the entry left, then the symbol
-pub data ArrowLess : Arrow → Arrow → Type 0 where
-  by-from : {q x p r y o : ℕ} → q < r → ArrowLess (q, x, p) (r, y, o)
-  by-symbol : {q x p r y o : ℕ} → q ≡ r → x < y → ArrowLess (q, x, p) (r, y, o)
+-- by the node left, then the word
+abbrev pub ArrowLess : Arrow → Arrow → Type 0
+ArrowLess a b = (a .0 < b .0) ⊎ ((a .0 ≡ b .0) × (a .1 < b .1))
 
 -- by the node left, then the node reached
-pub data JumpLess : ℕ × ℕ → ℕ × ℕ → Type 0 where
-  by-from : {q p r o : ℕ} → q < r → JumpLess (q, p) (r, o)
-  by-to : {q p r o : ℕ} → q ≡ r → p < o → JumpLess (q, p) (r, o)
+abbrev pub JumpLess : ℕ × ℕ → ℕ × ℕ → Type 0
+JumpLess a b = (a .0 < b .0) ⊎ ((a .0 ≡ b .0) × (a .1 < b .1))
 
 -- the acceptor of an unfolded machine: its arcs are the moves on words, its jumps stand for the completed rules
 pub record FlattenedFrom (g : Grammar) (states : List (List ℕ)) (nodes : List Node) (moves : List Arrow) (f : Acceptor) : Type 0 where
