@@ -14,7 +14,7 @@ use Rattle.theory.specs.Items.Numbers.{added, ruled}
 use Rattle.theory.specs.Machine.{Machine, HasItem, Holds, FinalState}
 use Rattle.theory.specs.Policies.{Meaning}
 use Rattle.theory.specs.Unfolding.{Node, Unfolded, NodeHolds, FinalNode}
-use Rattle.theory.specs.Flattening.{Acceptor, Leads, Jump, ForwardJump, ArrowLess, JumpLess, FlattenedFrom, Flattened}
+use Rattle.theory.specs.Flattening.{Acceptor, Leads, Jump, ForwardJump, ArrowLess, JumpLess, JumpLaws, FlattenedFrom}
 use Rattle.theory.specs.Flattening.Leads.{here, on}
 use Rattle.theory.proofs.Lists.{some-one, ascending-unique, at-mem, snoc-not-nil}
 use Rattle.theory.proofs.Items.{dotted-only, item-one}
@@ -104,3 +104,7 @@ flat-unique g u mt m un {e} {f} h k =
             ascending-unique jump-apart (e .jumps) (f .jumps) (h .jumps-rise) (k .jumps-rise)
             (λ a. ((λ i. k .jumps-are (a .0) (a .1) .1 (h .jumps-are (a .0) (a .1) .0 i)), (λ i. h .jumps-are (a .0) (a .1) .1 (k .jumps-are (a .0) (a .1) .0 i)))) in
     λ i. record { words = words i; nodes = count i; final = final i; arcs = arcs i; jumps = jumps i }
+
+pub jump-laws : (g : Grammar) → Sound g → {states : List (List ℕ)} {moves : List Arrow} → Machine g states moves → (m : Meaning) {nodes : List Node} {arrows : List Arrow} → Unfolded m moves (symbols g) nodes arrows → JumpLaws g states nodes arrows
+jump-laws g u mt m un =
+    record { forward = jump-forward g u mt m un; moves-over = λ q a side i h. forward-moves g u mt m un i h; completes = λ q p a side i l. carried-over g u mt m un l i }

@@ -15,4 +15,5 @@ pub mod States
 pub mod Unfolding
 pub mod Finer
 pub mod Flattening
-pub mod Laws
+pub mod Policies
+pub mod Theorems

@@ -44,6 +44,14 @@ pub record ForwardJump (g : Grammar) (states : List (List ℕ)) (nodes : List No
   pub leads : Leads moves from side p
   pub over : List·Memᴰ (from, left, to) moves
 
+-- jumps can be found going forward from the nodes that hold a rule with its dot in front
+pub record JumpLaws (g : Grammar) (states : List (List ℕ)) (nodes : List Node) (moves : List Arrow) : Type 0 where
+  pub forward : (p to : ℕ) → Jump g states nodes moves p to ↔ ForwardJump g states nodes moves p to
+  -- such a node always moves over the rule's name
+  pub moves-over : (q a : ℕ) (side : List ℕ) → NodeHolds g states nodes q a [] side → Rewrites g a side → (to : ℕ) × List·Memᴰ (q, a, to) moves
+  -- and leads over the rule's right side to nodes that hold the completed rule
+  pub completes : (q p a : ℕ) (side : List ℕ) → NodeHolds g states nodes q a [] side → Leads moves q side p → NodeHolds g states nodes p a side []
+
 -- by the node left, then the word
 abbrev pub ArrowLess : Arrow → Arrow → Type 0
 ArrowLess a b = (a .0 < b .0) ⊎ ((a .0 ≡ b .0) × (a .1 < b .1))

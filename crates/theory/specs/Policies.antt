@@ -2,7 +2,7 @@
 use mathlib.Core.Path.{_≡_}
 use mathlib.Core.Bool.{true, false}
 use mathlib.Core.List.{List, [], _∷_, _++_, List·Memᴰ}
-use Prim.Native.Nat.{ℕ}
+use Prim.Native.Nat.{ℕ, _+_}
 use lib.Dec.{eqb}
 use lib.ListN.{take}
 use Rattle.book.specs.Grammar.{Grammar}
@@ -68,6 +68,18 @@ Finer moves m n =
 -- the same over the machine of a grammar
 abbrev pub FinerOn : Grammar → Meaning → Meaning → Type 0
 FinerOn g m n = (sets : List (List ℕ)) (moves : List Arrow) → Machine g sets moves → Finer moves m n
+
+-- how the meanings compare over the moves of a machine
+pub record PolicyLaws (moves : List Arrow) : Type 0 where
+  pub itself : (m : Meaning) → Finer moves m m
+  pub chain : (k m n : Meaning) → Finer moves k m → Finer moves m n → Finer moves k n
+  -- every meaning is finer than one class
+  pub one-class-coarsest : (m : Meaning) → Finer moves m one-class
+  -- a pair is finer than each half
+  pub both-left : (m n : Meaning) → Finer moves (both m n) m
+  pub both-right : (m n : Meaning) → Finer moves (both m n) n
+  -- more states kept are finer
+  pub last-longer : (k : ℕ) → Finer moves (last (k + 1)) (last k)
 
 -- the class after reaching some states one after another, whatever was left and read
 abbrev pub arrivals : Meaning → Class → List ℕ → Class

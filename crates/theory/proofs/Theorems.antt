@@ -12,15 +12,18 @@ use Rattle.theory.specs.Unfolding.{Node, Unfolded, FinalNode}
 use Rattle.theory.specs.Flattening.{Acceptor, FlattenedFrom, Flattened}
 use Rattle.theory.specs.Sentences.{Reads, Passes}
 use Rattle.theory.specs.Sentences.Reads.{stop, arc, jump}
-use Rattle.theory.specs.Laws.{Laws, AllLaws}
+use Rattle.theory.specs.Laws.{Laws, AllLaws, Foundations}
+use Rattle.theory.proofs.Items.{items-length, dotted-only, dotted-at, dotted-next}
+use Rattle.theory.proofs.Closure.{closure-members, closure-increasing, goto-carried, goto-none, carried-members}
+use Rattle.theory.proofs.Policies.{policy-laws}
 use Rattle.theory.proofs.Numbering.{numbered-unique}
-use Rattle.theory.proofs.States.{machine-unique}
-use Rattle.theory.proofs.Unfolding.{graph-lawful, final-node-one}
+use Rattle.theory.proofs.States.{machine-unique, machine-laws}
+use Rattle.theory.proofs.Unfolding.{graph-lawful, final-node-one, unfolding-laws}
 use Rattle.theory.proofs.Superset.{accepted}
 use Rattle.theory.proofs.LeftExact.{left-exact}
 use Rattle.theory.proofs.RightExact.{right-exact}
 use Rattle.theory.proofs.Finer.{reads, refines, final-shared, Shared}
-use Rattle.theory.proofs.Flattening.{final-holds, holds-final, flat-of, flat-unique}
+use Rattle.theory.proofs.Flattening.{final-holds, holds-final, flat-of, flat-unique, jump-laws}
 
 -- what is read is made of words
 pub reads-sentence : (g : Grammar) {m : Meaning} {f : Acceptor} → Flattened g m f → {q p : ℕ} {w : List ℕ} → Reads f q w p → Sentence g w
@@ -78,3 +81,15 @@ module _ (g : Grammar) (u : Sound g) where
 
 pub all-laws : AllLaws
 all-laws g u = record { nothing-lost = nothing-lost g u; exact = exact g u; finer = finer g u; one = one-acceptor g u }
+
+pub foundations : Foundations
+foundations =
+    record { item-numbers = items-length
+           ; item-at = λ g k a l r. (dotted-only g k, dotted-at g k)
+           ; item-next = λ g k a x l r d. dotted-next g k d
+           ; closure-members = closure-members; closure-increases = closure-increasing
+           ; goto-moves = λ g set x k c. goto-carried g set x c; goto-stays = goto-none; carried-members = carried-members
+           ; machine = λ g u states moves mt. machine-laws g u mt
+           ; unfolding-laws = λ g u states moves mt m nodes arrows un. unfolding-laws g u mt m un
+           ; jumps = λ g u states moves mt m nodes arrows un. jump-laws g u mt m un
+           ; policies = policy-laws }
