@@ -40,9 +40,13 @@ module _ {g : Grammar} {G : Graph} (m : Lawful g G) where
 
   begun-[] : {p : ℕ} {γ : List ℕ} → Way (G .moves) p γ → {a : ℕ} {l r : List ℕ} → G .Item p a l r → l ≡ [] → Begun γ a l r
   begun-[] {p} {γ} w {a} {l} {r} i e =
-      record { place = p; before = γ; way = w
-             ; item = subst (G .Item p a []) (ap (λ k. k ++ r) (sym e)) (subst (λ k. G .Item p a k r) e i)
-             ; joins = sym (ap (λ k. γ ++ k) e ∙ append-nil γ) }
+      record {
+        place = p;
+        before = γ;
+        way = w;
+        item = subst (G .Item p a []) (ap (λ k. k ++ r) (sym e)) (subst (λ k. G .Item p a k r) e i);
+        joins = sym (ap (λ k. γ ++ k) e ∙ append-nil γ);
+      }
 
   pub begun : {p : ℕ} {γ : List ℕ} → Way (G .moves) p γ → {a : ℕ} {l r : List ℕ} → G .Item p a l r → Begun γ a l r
   begun from i = ⊎-elim (λ f. begun-[] from i (f .none)) (λ h. begun-[] from i (h .0)) (closes-cases (m .zeroth-items .0 i))
@@ -51,6 +55,10 @@ module _ {g : Grammar} {G : Graph} (m : Lawful g G) where
     where
       again : (f : Over (G .Item q) x a l r) → Begun xs a (f .rest) (x ∷ r) → Begun (xs ++ (x ∷ [])) a l r
       again f u =
-          record { place = u .place; before = u .before; way = u .way
-                 ; item = subst (G .Item (u .place) a []) (sym (ap (λ k. k ++ r) (f .is) ∙ append-assoc (f .rest) (x ∷ []) r)) (u .item)
-                 ; joins = ap (λ k. k ++ (x ∷ [])) (u .joins) ∙ append-assoc (u .before) (f .rest) (x ∷ []) ∙ ap (λ k. u .before ++ k) (sym (f .is)) }
+          record {
+            place = u .place;
+            before = u .before;
+            way = u .way;
+            item = subst (G .Item (u .place) a []) (sym (ap (λ k. k ++ r) (f .is) ∙ append-assoc (f .rest) (x ∷ []) r)) (u .item);
+            joins = ap (λ k. k ++ (x ∷ [])) (u .joins) ∙ append-assoc (u .before) (f .rest) (x ∷ []) ∙ ap (λ k. u .before ++ k) (sym (f .is));
+          }

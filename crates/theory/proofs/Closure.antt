@@ -123,14 +123,15 @@ module _ (g : Grammar) where
   -- ── goto ──
 
   pub carried-members : (set : List ℕ) (x k : ℕ) → List·Memᴰ k (carried (items g) set x) ↔ Carried g set x k
-  carried-members set x k =
-      ( (λ m. let (j, i, e) = Memᴰ·of-map suc (keep (follows (items g) x) set) m in
-            let (w, t) = keep-mem (follows (items g) x) set i in
-            let f = follows-only (items g) x j t in
-            record { from = j; member = w; left = f .left; before = f .before; after = f .after; item = f .at; number = sym e })
-      , (λ (c : Carried g set x k).
-            subst (λ n. List·Memᴰ n (carried (items g) set x)) (sym (c .number))
-            (Memᴰ·map suc (mem-keep (follows (items g) x) set (c .member) (follows-is (items g) x (c .from) (c .left) (c .before) (c .after) (c .item))))) )
+  carried-members set x k = (
+    (λ m. let (j, i, e) = Memᴰ·of-map suc (keep (follows (items g) x) set) m in
+        let (w, t) = keep-mem (follows (items g) x) set i in
+        let f = follows-only (items g) x j t in
+        record { from = j; member = w; left = f .left; before = f .before; after = f .after; item = f .at; number = sym e }),
+    (λ (c : Carried g set x k).
+        subst (λ n. List·Memᴰ n (carried (items g) set x)) (sym (c .number))
+        (Memᴰ·map suc (mem-keep (follows (items g) x) set (c .member) (follows-is (items g) x (c .from) (c .left) (c .before) (c .after) (c .item))))),
+  )
 
   goto-nil : (set : List ℕ) (x : ℕ) → carried (items g) set x ≡ [] → goto g set x ≡ none
   goto-nil set x e = rw (e, goto)
@@ -164,8 +165,11 @@ module _ (g : Grammar) where
       cases : (ks : List ℕ) → carried (items g) set x ≡ ks → Reached set x to
       cases [] e = absurd (none-some (goto-nil set x e) h)
       cases (j ∷ ks) e =
-          record { number = j; by = carried-members set x j .0 (subst (List·Memᴰ j) (sym e) (List·Memᴰ·head refl))
-                 ; is = some-one h (goto-cons set x j ks e) ∙ ap (closure g) (sym e) }
+          record {
+            number = j;
+            by = carried-members set x j .0 (subst (List·Memᴰ j) (sym e) (List·Memᴰ·head refl));
+            is = some-one h (goto-cons set x j ks e) ∙ ap (closure g) (sym e);
+          }
 
   -- any list of just the carried items has the closure that the set moves to
   pub goto-is : (set : List ℕ) (x : ℕ) (K : List ℕ) {k : ℕ} → List·Memᴰ k K → ((j : ℕ) → List·Memᴰ j K ↔ Carried g set x j) → goto g set x ≡ some (closure g K)

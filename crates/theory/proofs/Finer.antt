@@ -37,9 +37,19 @@ module _ {g : Grammar} {G H : Graph} (m : Lawful g G) {Shares : ℕ → ℕ → 
       let (way, l) = m .reached (j .over) in
       let (o, w, z) = leads l (r .first) in
       let (e, over, u) = leads (j .leads) z in
-      let (d, move, y) = r .follows z (j .over) in
-      (d, record { left = j .left; side = j .side; from = o; rewrites = j .rewrites; item = r .items s (j .item)
-                 ; leads = subst (Leads (H .moves) o (j .side)) (r .one u s) over; over = move }, y)
+      let (d, move, y) = r .follows z (j .over) in (
+        d,
+        record {
+          left = j .left;
+          side = j .side;
+          from = o;
+          rewrites = j .rewrites;
+          item = r .items s (j .item);
+          leads = subst (Leads (H .moves) o (j .side)) (r .one u s) over;
+          over = move;
+        },
+        y,
+      )
 
   -- what is read in the fine graph is read in the coarse one
   pub reads : {e f : Acceptor} → Flat g G e → Flat g H f → {q p : ℕ} {w : List ℕ} → Reads e q w p → {c : ℕ} → Shares q c → (d : ℕ) × Reads f c w d × Shares p d
@@ -73,28 +83,43 @@ module _ (g : Grammar) (u : Sound g) {states : List (List ℕ)} {moves : List Ar
       let e : node (t .state) (t .fine) ≡ node (s .state) (s .fine) = some-one (t .fine-at) (s .fine-at) in
       let q : t .state ≡ s .state = ap (λ (w : Node). w .state) e in
       let k : s .coarse ≡ t .coarse =
-              finer (s .stack) (t .stack) (s .state) (s .fine) (s .coarse) (t .coarse) (s .fine-stack)
-              (subst (λ (w : Node). Stacked moves m (t .stack) (w .state) (w .class)) e (t .fine-stack))
-              (s .coarse-stack) (subst (λ i. Stacked moves n (t .stack) i (t .coarse)) q (t .coarse-stack)) in
+      finer (s .stack) (t .stack) (s .state) (s .fine) (s .coarse) (t .coarse) (s .fine-stack)
+      (subst (λ (w : Node). Stacked moves m (t .stack) (w .state) (w .class)) e (t .fine-stack))
+      (s .coarse-stack) (subst (λ i. Stacked moves n (t .stack) i (t .coarse)) q (t .coarse-stack)) in
       place-one nn (s .coarse-at) (t .coarse-at ∙ (λ i. some (node (q i) (sym k i))))
 
   follows : {q p c x : ℕ} → Shared q c → List·Memᴰ (q, x, p) ms → (d : ℕ) × List·Memᴰ (c, x, d) vs × Shared p d
   follows {x = x} s v =
       let e = edge g u mt m mn (s .fine-at) v in
-      let (d, w, z) = edge-on g u mt n nn (s .coarse-at) (e .move) in
-      (d, w, record { stack = (s .state, x) ∷ s .stack; state = e .target
-                    ; fine = m .next (s .fine) (s .state) x (e .target); coarse = n .next (s .coarse) (s .state) x (e .target)
-                    ; fine-at = e .at; coarse-at = z; fine-stack = push (s .fine-stack) (e .move); coarse-stack = push (s .coarse-stack) (e .move) })
+      let (d, w, z) = edge-on g u mt n nn (s .coarse-at) (e .move) in (
+        d,
+        w,
+        record {
+          stack = (s .state, x) ∷ s .stack;
+          state = e .target;
+          fine = m .next (s .fine) (s .state) x (e .target);
+          coarse = n .next (s .coarse) (s .state) x (e .target);
+          fine-at = e .at;
+          coarse-at = z;
+          fine-stack = push (s .fine-stack) (e .move);
+          coarse-stack = push (s .coarse-stack) (e .move);
+        },
+      )
 
   pub refines : Refines (graph g u mt m mn) (graph g u mt n nn) Shared
   refines =
-      record { first = record { stack = []; state = 0; fine = m .first; coarse = n .first; fine-at = node-zero g u mt m mn; coarse-at = node-zero g u mt n nn; fine-stack = empty; coarse-stack = empty }
-             ; one = λ s t. one s t
-             ; follows = λ s v. follows s v
-             ; items = λ {p} {c} {a} {l} {r} s i. record { its = node (s .state) (s .coarse); at = s .coarse-at; holds = item-of g u mt m mn p (s .fine-at) i } }
+      record {
+        first = record { stack = []; state = 0; fine = m .first; coarse = n .first; fine-at = node-zero g u mt m mn; coarse-at = node-zero g u mt n nn; fine-stack = empty; coarse-stack = empty };
+        one = λ s t. one s t;
+        follows = λ s v. follows s v;
+        items = λ {p} {c} {a} {l} {r} s i. record { its = node (s .state) (s .coarse); at = s .coarse-at; holds = item-of g u mt m mn p (s .fine-at) i };
+      }
 
   -- a final node goes with a final node
   pub final-shared : {p c : ℕ} → Shared p c → FinalNode states ns p → FinalNode states os c
   final-shared s h =
-      record { its = node (s .state) (s .coarse); at = s .coarse-at
-             ; final = subst (λ (k : Node). Rattle.theory.specs.Machine.FinalState states (k .state)) (some-one (h .at) (s .fine-at)) (h .final) }
+      record {
+        its = node (s .state) (s .coarse);
+        at = s .coarse-at;
+        final = subst (λ (k : Node). Rattle.theory.specs.Machine.FinalState states (k .state)) (some-one (h .at) (s .fine-at)) (h .final);
+      }

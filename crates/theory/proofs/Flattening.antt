@@ -68,19 +68,29 @@ module _ (g : Grammar) (u : Sound g) {states : List (List ℕ)} {moves : List Ar
 
   -- jumps are found going forward
   pub jump-forward : (p to : ℕ) → Jump g states nodes arrows p to ↔ ForwardJump g states nodes arrows p to
-  jump-forward p to =
-      ( (λ j. record { left = j .left; side = j .side; from = j .from; rewrites = j .rewrites
-                     ; item = subst (NodeHolds g states nodes (j .from) (j .left) []) (append-nil (j .side)) (uncarried-over (j .leads) [] (j .item))
-                     ; leads = j .leads; over = j .over })
-      , (λ j. record { left = j .left; side = j .side; from = j .from; rewrites = j .rewrites; item = carried-over (j .leads) (j .item); leads = j .leads; over = j .over }) )
+  jump-forward p to = (
+    (λ j. record {
+      left = j .left;
+      side = j .side;
+      from = j .from;
+      rewrites = j .rewrites;
+      item = subst (NodeHolds g states nodes (j .from) (j .left) []) (append-nil (j .side)) (uncarried-over (j .leads) [] (j .item));
+      leads = j .leads;
+      over = j .over;
+    }),
+    (λ j. record { left = j .left; side = j .side; from = j .from; rewrites = j .rewrites; item = carried-over (j .leads) (j .item); leads = j .leads; over = j .over }),
+  )
 
   -- the acceptor of the unfolding, as the laws take it
   pub flat-of : {f : Acceptor} → FlattenedFrom g states nodes arrows f → Flat g (graph g u mt m un) f
   flat-of h =
-      record { arcs = h .arcs-are
-             ; jumps = λ p to.
-                   ( (λ k. let j = h .jumps-are p to .0 k in record { left = j .left; side = j .side; from = j .from; rewrites = j .rewrites; item = j .item; leads = j .leads; over = j .over })
-                   , (λ j. h .jumps-are p to .1 (record { left = j .left; side = j .side; from = j .from; rewrites = j .rewrites; item = j .item; leads = j .leads; over = j .over })) ) }
+      record {
+        arcs = h .arcs-are;
+        jumps = λ p to. (
+          (λ k. let j = h .jumps-are p to .0 k in record { left = j .left; side = j .side; from = j .from; rewrites = j .rewrites; item = j .item; leads = j .leads; over = j .over }),
+          (λ j. h .jumps-are p to .1 (record { left = j .left; side = j .side; from = j .from; rewrites = j .rewrites; item = j .item; leads = j .leads; over = j .over })),
+        );
+      }
 
 -- ── one acceptor ──
 
@@ -98,11 +108,11 @@ flat-unique g u mt m un {e} {f} h k =
     let count : e .nodes ≡ f .nodes = h .nodes-are ∙ sym (k .nodes-are) in
     let final : e .final ≡ f .final = final-node-one g u mt m un (e .final) (f .final) (h .final-is) (k .final-is) in
     let arcs : e .arcs ≡ f .arcs =
-            ascending-unique arrow-apart (e .arcs) (f .arcs) (h .arcs-rise) (k .arcs-rise)
-            (λ a. ((λ i. k .arcs-are (a .0) (a .1) (a .2) .1 (h .arcs-are (a .0) (a .1) (a .2) .0 i)), (λ i. h .arcs-are (a .0) (a .1) (a .2) .1 (k .arcs-are (a .0) (a .1) (a .2) .0 i)))) in
+    ascending-unique arrow-apart (e .arcs) (f .arcs) (h .arcs-rise) (k .arcs-rise)
+    (λ a. ((λ i. k .arcs-are (a .0) (a .1) (a .2) .1 (h .arcs-are (a .0) (a .1) (a .2) .0 i)), (λ i. h .arcs-are (a .0) (a .1) (a .2) .1 (k .arcs-are (a .0) (a .1) (a .2) .0 i)))) in
     let jumps : e .jumps ≡ f .jumps =
-            ascending-unique jump-apart (e .jumps) (f .jumps) (h .jumps-rise) (k .jumps-rise)
-            (λ a. ((λ i. k .jumps-are (a .0) (a .1) .1 (h .jumps-are (a .0) (a .1) .0 i)), (λ i. h .jumps-are (a .0) (a .1) .1 (k .jumps-are (a .0) (a .1) .0 i)))) in
+    ascending-unique jump-apart (e .jumps) (f .jumps) (h .jumps-rise) (k .jumps-rise)
+    (λ a. ((λ i. k .jumps-are (a .0) (a .1) .1 (h .jumps-are (a .0) (a .1) .0 i)), (λ i. h .jumps-are (a .0) (a .1) .1 (k .jumps-are (a .0) (a .1) .0 i)))) in
     λ i. record { words = words i; nodes = count i; final = final i; arcs = arcs i; jumps = jumps i }
 
 pub jump-laws : (g : Grammar) → Sound g → {states : List (List ℕ)} {moves : List Arrow} → Machine g states moves → (m : Meaning) {nodes : List Node} {arrows : List Arrow} → Unfolded m moves (symbols g) nodes arrows → JumpLaws g states nodes arrows

@@ -80,13 +80,13 @@ joined-only [] k e = absurd (none-some refl e)
 joined-only (r ∷ rs) k {a} {m} {s} e =
     ⊎-elim
     (λ h. let d = dots-dot (r .left) [] (r .right) k h in
-        record { place = 0; its = r; at = refl; number = (let n = d .place in omega arith); left = d .left; whole = d .whole })
+    record { place = 0; its = r; at = refl; number = (let n = d .place in omega arith); left = d .left; whole = d .whole })
     (λ (l : Later (rule-items r) (joined rule-items rs) k (item a m s)).
-        let i = joined-only rs (l .place) (l .at) in
-        let n = l .number in let h = i .number in
-        let c = sumBy-cons (λ (r : Rule). length (r .right) + 1) r (take (i .place) rs) in
-        let d = dots-length (r .left) [] (r .right) in
-        record { place = suc (i .place); its = i .its; at = i .at; number = omega arith; left = i .left; whole = i .whole })
+    let i = joined-only rs (l .place) (l .at) in
+    let n = l .number in let h = i .number in
+    let c = sumBy-cons (λ (r : Rule). length (r .right) + 1) r (take (i .place) rs) in
+    let d = dots-length (r .left) [] (r .right) in
+    record { place = suc (i .place); its = i .its; at = i .at; number = omega arith; left = i .left; whole = i .whole })
     (at-split (rule-items r) (joined rule-items rs) k e)
 
 joined-at : (rs : List Rule) (i : ℕ) (r : Rule) (m s : List ℕ) → getElem? rs i ≡ some r → m ++ s ≡ r .right → getElem? (joined rule-items rs) (rules-count (take i rs) + length m) ≡ some (item (r .left) m s)
@@ -114,9 +114,9 @@ dotted-only g k {a} {m} {s} e =
     ⊎-elim
     (λ h. let d = dots-dot (symbols g) [] (g .start ∷ []) k h in added (let n = d .place in omega arith) (d .left) (d .whole))
     (λ (l : Later (dots (symbols g) [] (g .start ∷ [])) (joined rule-items (g .rules)) k (item a m s)).
-        let i = joined-only (g .rules) (l .place) (l .at) in
-        let n = l .number in let h = i .number in
-        ruled (i .place) (i .its) (i .at) (omega arith) (i .left) (i .whole))
+    let i = joined-only (g .rules) (l .place) (l .at) in
+    let n = l .number in let h = i .number in
+    ruled (i .place) (i .its) (i .at) (omega arith) (i .left) (i .whole))
     (at-split (dots (symbols g) [] (g .start ∷ [])) (joined rule-items (g .rules)) k e)
 
 pub dotted-at : (g : Grammar) (k : ℕ) {a : ℕ} {m s : List ℕ} → Numbers g k a m s → Dotted g k a m s
@@ -124,7 +124,7 @@ dotted-at g k {a} {m} {s} (added n e h) =
     let added-items = dots (symbols g) [] (g .start ∷ []) in
     ap (getElem? (items g)) n
     ∙ at-left added-items (joined rule-items (g .rules)) (length m)
-      (ap (λ r. getElem? (dots (symbols g) [] r) (length m)) (sym h) ∙ dots-at (symbols g) [] m s ∙ ap (λ b. some (item b m s)) (sym e))
+    (ap (λ r. getElem? (dots (symbols g) [] r) (length m)) (sym h) ∙ dots-at (symbols g) [] m s ∙ ap (λ b. some (item b m s)) (sym e))
 dotted-at g k {a} {m} {s} (ruled i r p n e h) =
     let added-items = dots (symbols g) [] (g .start ∷ []) in
     let q : k ≡ length added-items + (rules-count (take i (g .rules)) + length m) = omega arith in

@@ -67,7 +67,7 @@ module _ {A : Type 0} (p : A → Bool) where
   mem-keep (x ∷ xs) {k} m e =
       ⊎-elim (λ q. subst (List·Memᴰ k) (sym (keep-take x xs (ap p (sym q) ∙ e))) (List·Memᴰ·head q))
       (λ t. let r = mem-keep xs t e in
-          ⊎-elim (λ f. subst (List·Memᴰ k) (sym (keep-take x xs f)) (List·Memᴰ·tail r)) (λ f. subst (List·Memᴰ k) (sym (keep-leave x xs f)) r) (true-or-false (p x)))
+      ⊎-elim (λ f. subst (List·Memᴰ k) (sym (keep-take x xs f)) (List·Memᴰ·tail r)) (λ f. subst (List·Memᴰ k) (sym (keep-leave x xs f)) r) (true-or-false (p x)))
       (List·Memᴰ·cases-cons m)
 
   pub any-mem : (xs : List A) → any p xs ≡ true → (k : A) × List·Memᴰ k xs × (p k ≡ true)
@@ -152,7 +152,7 @@ module _ {A : Type 0} {less : A → A → Type 0} (apart : (x y : A) → less x 
   ascending-unique (x ∷ xs) (y ∷ ys) h k s =
       let e : x ≡ y = same-head x y xs ys h k (s x .0 (List·Memᴰ·head refl)) (s y .1 (List·Memᴰ·head refl)) in
       let t = ascending-unique xs ys (h .1) (k .1)
-              (λ z. ((λ m. tail-mem x y xs ys h e m (s z .0 (List·Memᴰ·tail m))), (λ m. tail-mem y x ys xs k (sym e) m (s z .1 (List·Memᴰ·tail m))))) in
+      (λ z. ((λ m. tail-mem x y xs ys h e m (s z .0 (List·Memᴰ·tail m))), (λ m. tail-mem y x ys xs k (sym e) m (s z .1 (List·Memᴰ·tail m))))) in
       λ i. e i ∷ t i
 
 pub below-apart : (x y : ℕ) → x < y → y < x → ⊥

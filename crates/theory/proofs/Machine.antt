@@ -51,15 +51,17 @@ module _ (g : Grammar) (u : Sound g) where
     has-in {k = k} e h = subst (List·Memᴰ k) (some-one (h .at) e) (h .member)
 
     pub zero-closed : {k : ℕ} → HasItem states 0 k ↔ Closed g (0 ∷ []) k
-    zero-closed {k} =
-        ( (λ h. closure-members g (0 ∷ []) k .0 (has-in state-zero h))
-        , (λ c. record { set = initial g; at = state-zero; member = closure-members g (0 ∷ []) k .1 c }) )
+    zero-closed {k} = (
+      (λ h. closure-members g (0 ∷ []) k .0 (has-in state-zero h)),
+      (λ c. record { set = initial g; at = state-zero; member = closure-members g (0 ∷ []) k .1 c }),
+    )
 
     pub zeroth : (a : ℕ) (l r : List ℕ) → Holds g states 0 a l r ↔ Closes g (Outset g) a l r
-    zeroth a l r =
-        ( (λ i. closed-content (Outset g) (λ k a l r m d. one-zero m d) (zero-closed .0 (i .has)) (i .is))
-        , (λ c. let (k, h, d) = content-closed (λ a l r (o : Outset g a l r). (0, List·Memᴰ·head refl, (λ i. some (item (sym (o .left) i) (sym (o .none) i) (sym (o .whole) i))))) c in
-              record { number = k; has = zero-closed .1 h; is = d }) )
+    zeroth a l r = (
+      (λ i. closed-content (Outset g) (λ k a l r m d. one-zero m d) (zero-closed .0 (i .has)) (i .is)),
+      (λ c. let (k, h, d) = content-closed (λ a l r (o : Outset g a l r). (0, List·Memᴰ·head refl, (λ i. some (item (sym (o .left) i) (sym (o .none) i) (sym (o .whole) i))))) c in
+          record { number = k; has = zero-closed .1 h; is = d }),
+    )
 
     -- a move's ends: the set left, and the closure reached
     pub record Ends (q x p : ℕ) : Type 0 where
@@ -77,9 +79,10 @@ module _ (g : Grammar) (u : Sound g) where
         record { from = set; at = e; number = r .number; by = r .by; to = d .place ∙ ap some (r .is) }
 
     pub move-closed : {q x p : ℕ} (e : Ends q x p) {k : ℕ} → HasItem states p k ↔ Closed g (carried (items g) (e .from) x) k
-    move-closed {x = x} e {k} =
-        ( (λ h. closure-members g (carried (items g) (e .from) x) k .0 (has-in (e .to) h))
-        , (λ c. record { set = closure g (carried (items g) (e .from) x); at = e .to; member = closure-members g (carried (items g) (e .from) x) k .1 c }) )
+    move-closed {x = x} e {k} = (
+      (λ h. closure-members g (carried (items g) (e .from) x) k .0 (has-in (e .to) h)),
+      (λ c. record { set = closure g (carried (items g) (e .from) x); at = e .to; member = closure-members g (carried (items g) (e .from) x) k .1 c }),
+    )
 
     over-content : (q x : ℕ) {p : ℕ} (e : Ends q x p) (k a : ℕ) (l r : List ℕ) → List·Memᴰ k (carried (items g) (e .from) x) → Dotted g k a l r → Over (Holds g states q) x a l r
     over-content q x e k a l r m d =
@@ -88,24 +91,31 @@ module _ (g : Grammar) (u : Sound g) where
         let w : item (c .left) (c .before ++ (x ∷ [])) (c .after) ≡ item a l r = same-item g k t d in
         let la : c .left ≡ a = ap (λ (i : Item). i .left) w in
         let ra : c .after ≡ r = ap (λ (i : Item). i .after) w in
-        record { rest = c .before
-               ; was = record { number = c .from; has = record { set = e .from; at = e .at; member = c .member }
-                              ; is = c .item ∙ (λ i. some (item (la i) (c .before) (x ∷ ra i))) }
-               ; is = sym (ap (λ (i : Item). i .before) w) }
+        record {
+          rest = c .before;
+          was = record {
+            number = c .from;
+            has = record { set = e .from; at = e .at; member = c .member };
+            is = c .item ∙ (λ i. some (item (la i) (c .before) (x ∷ ra i)));
+          };
+          is = sym (ap (λ (i : Item). i .before) w);
+        }
 
     content-over : (q x : ℕ) {p : ℕ} (e : Ends q x p) (a : ℕ) (l r : List ℕ) → Over (Holds g states q) x a l r → (k : ℕ) × List·Memᴰ k (carried (items g) (e .from) x) × Dotted g k a l r
     content-over q x e a l r o =
-        let h = o .was in
-        ( suc (h .number)
-        , carried-members g (e .from) x (suc (h .number)) .1
-          (record { from = h .number; member = has-in (e .at) (h .has); left = a; before = o .rest; after = r; item = h .is; number = refl })
-        , dotted-next g (h .number) (h .is) ∙ ap (λ m. some (item a m r)) (sym (o .is)) )
+        let h = o .was in (
+          suc (h .number),
+          carried-members g (e .from) x (suc (h .number)) .1
+              (record { from = h .number; member = has-in (e .at) (h .has); left = a; before = o .rest; after = r; item = h .is; number = refl }),
+          dotted-next g (h .number) (h .is) ∙ ap (λ m. some (item a m r)) (sym (o .is)),
+        )
 
     pub moved : (q x p : ℕ) → List·Memᴰ (q, x, p) moves → (a : ℕ) (l r : List ℕ) → Holds g states p a l r ↔ Closes g (Over (Holds g states q) x) a l r
     moved q x p v a l r =
-        let e = ends v in
-        ( (λ i. closed-content (Over (Holds g states q) x) (over-content q x e) (move-closed e .0 (i .has)) (i .is))
-        , (λ c. let (k, h, d) = content-closed (content-over q x e) c in record { number = k; has = move-closed e .1 h; is = d }) )
+        let e = ends v in (
+          (λ i. closed-content (Over (Holds g states q) x) (over-content q x e) (move-closed e .0 (i .has)) (i .is)),
+          (λ c. let (k, h, d) = content-closed (content-over q x e) c in record { number = k; has = move-closed e .1 h; is = d }),
+        )
 
     pub moves-when : (q x a : ℕ) (l r : List ℕ) → Holds g states q a l (x ∷ r) → (p : ℕ) × List·Memᴰ (q, x, p) moves
     moves-when q x a l r i =

@@ -120,7 +120,6 @@ module _ {A : Type 0} (targets : A → List A) (start : A) where
       let t = rest-same f g r s (start ∷ []) ne p q in
       cc
 
-
 -- no element stands twice
 abbrev pub Apart : {A : Type 0} → List A → Type 0
 Apart {A} es = (e : A) (before after : List A) → es ≡ before ++ (e ∷ after) → List·Memᴰ e before → ⊥
@@ -182,7 +181,7 @@ row-only (pass h r) m = row-only r m
 row-only {es = es} {step} {i} {q = q} {x} {p} (go {x = y} {j = j} u h l r) m =
     ⊎-elim
     (λ w. let a : q ≡ i = ap (λ (t : Arrow). t .0) w in let b : x ≡ y = ap (λ (t : Arrow). t .1) w in let c : p ≡ j = ap (λ (t : Arrow). t .2) w in
-        (a, record { to = u; steps = ap step b ∙ h; place = ap (getElem? es) c ∙ l }))
+    (a, record { to = u; steps = ap step b ∙ h; place = ap (getElem? es) c ∙ l }))
     (row-only r) (List·Memᴰ·cases-cons m)
 
 pub rows-has : {A : Type 0} {es : List A} {step : A → ℕ → Option A} {symbols : List ℕ} {i : ℕ} {bs : List A} {ms : List Arrow} → Rows es step symbols i bs ms → {x : ℕ} {a t : A} (k : ℕ) → getElem? bs k ≡ some a → List·Memᴰ x symbols → step a x ≡ some t → (j : ℕ) × List·Memᴰ (i + k, x, j) ms × (getElem? es j ≡ some t)
@@ -209,7 +208,6 @@ rows-only {es = es} {step} {i = i} {q = q} {x} {p} (row {a = a} {bs = bs} {ms = 
     (λ k. let (e, d) = row-only r k in record { place = 0; number = (omega arith); entry = a; at = refl; made = d })
     (λ k. let o = rows-only rs k in record { place = suc (o .place); number = (let n = o .number in omega arith); entry = o .entry; at = o .at; made = o .made })
     (List·Memᴰ·append-cases ms m)
-
 
 row-symbol : {A : Type 0} {es : List A} {step : ℕ → Option A} {i : ℕ} {xs : List ℕ} {ms : List Arrow} {q x p : ℕ} → Row es step i xs ms → List·Memᴰ (q, x, p) ms → List·Memᴰ x xs
 row-symbol row-end m = absurd (List·Memᴰ·not-nil m)

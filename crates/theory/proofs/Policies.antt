@@ -48,16 +48,18 @@ module _ (moves : List Arrow) where
 
   pub policy-laws : PolicyLaws moves
   policy-laws =
-      record { itself = λ m σ τ s c d e h k i j. sym (class-one h i) ∙ class-one k j
-             ; chain = λ l m n f g σ τ s c d e h k i j.
-                   let (a, p) = class-of h m in
-                   let (b, q) = class-of k m in
-                   let w : a ≡ b = f σ τ s c a b h k p q in
-                   g σ τ s b d e (subst (Stacked moves m σ s) w p) q i j
-             ; one-class-coarsest = λ m σ τ s c d e h k i j. one-class-only i ∙ sym (one-class-only j)
-             ; both-left = λ m n σ τ s c d e h k i j. sym (class-one (halves m n h .0) i) ∙ class-one (halves m n k .0) j
-             ; both-right = λ m n σ τ s c d e h k i j. sym (class-one (halves m n h .1) i) ∙ class-one (halves m n k .1) j
-             ; last-longer = λ k σ τ s c d e h l i j. longer k σ τ c d e (last-only (k + 1) h) (last-only (k + 1) l) (last-only k i) (last-only k j) }
+      record {
+        itself = λ m σ τ s c d e h k i j. sym (class-one h i) ∙ class-one k j;
+        chain = λ l m n f g σ τ s c d e h k i j.
+            let (a, p) = class-of h m in
+            let (b, q) = class-of k m in
+            let w : a ≡ b = f σ τ s c a b h k p q in
+            g σ τ s b d e (subst (Stacked moves m σ s) w p) q i j;
+        one-class-coarsest = λ m σ τ s c d e h k i j. one-class-only i ∙ sym (one-class-only j);
+        both-left = λ m n σ τ s c d e h k i j. sym (class-one (halves m n h .0) i) ∙ class-one (halves m n k .0) j;
+        both-right = λ m n σ τ s c d e h k i j. sym (class-one (halves m n h .1) i) ∙ class-one (halves m n k .1) j;
+        last-longer = λ k σ τ s c d e h l i j. longer k σ τ c d e (last-only (k + 1) h) (last-only (k + 1) l) (last-only k i) (last-only k j);
+      }
     where
       longer : (k : ℕ) (σ τ : List (ℕ × ℕ)) (c d e : Class) → c ≡ states (take (k + 1) (lefts σ)) → c ≡ states (take (k + 1) (lefts τ)) → d ≡ states (take k (lefts σ)) → e ≡ states (take k (lefts τ)) → d ≡ e
       longer k σ τ c d e p q r s =

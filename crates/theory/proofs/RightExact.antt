@@ -36,7 +36,7 @@ rest-none g linear a c l [] h n = refl
 rest-none g linear a c l (x ∷ r) h n =
     let e = ended x r in
     let joins : l ++ (c ∷ (x ∷ r)) ≡ (l ++ (c ∷ e .beginning)) ++ (e .final ∷ []) =
-            ap (λ k. l ++ (c ∷ k)) (e .joins) ∙ sym (append-assoc l (c ∷ e .beginning) (e .final ∷ [])) in
+    ap (λ k. l ++ (c ∷ k)) (e .joins) ∙ sym (append-assoc l (c ∷ e .beginning) (e .final ∷ [])) in
     let s = linear a (e .final) (l ++ (c ∷ e .beginning)) (subst (Rewrites g a) joins h .1) in
     let k = sentence-at g l c (e .beginning) s in absurd (omega arith)
 

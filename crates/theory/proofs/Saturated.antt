@@ -20,11 +20,11 @@ keep-more p q (x ∷ xs) h =
     let le : length (keep p xs) ≤ length (keep q xs) = ⊎-elim (λ e. let f = ap length e in omega arith) (λ l. omega arith) r in
     ⊎-elim
     (λ pt. let qt = h x (List·Memᴰ·head refl) pt in
-        rw (keep-take p x xs pt, keep-take q x xs qt) (⊎-elim (λ e. inl (ap (λ l. x ∷ l) e)) (λ l. inr (omega arith)) r))
+    rw (keep-take p x xs pt, keep-take q x xs qt) (⊎-elim (λ e. inl (ap (λ l. x ∷ l) e)) (λ l. inr (omega arith)) r))
     (λ pf. ⊎-elim
-        (λ qt. rw (keep-leave p x xs pf, keep-take q x xs qt) (inr (omega arith)))
-        (λ qf. rw (keep-leave p x xs pf, keep-leave q x xs qf) r)
-        (true-or-false (q x)))
+    (λ qt. rw (keep-leave p x xs pf, keep-take q x xs qt) (inr (omega arith)))
+    (λ qf. rw (keep-leave p x xs pf, keep-leave q x xs qf) r)
+    (true-or-false (q x)))
     (true-or-false (p x))
 
 module _ (U : List ℕ) (leads : ℕ → ℕ → Bool) where
@@ -52,9 +52,9 @@ module _ (U : List ℕ) (leads : ℕ → ℕ → Bool) where
   settles (suc n) p h =
       ⊎-elim (λ q. let e = same-equal _ _ q in subst Stable (sym (rounds-stop n (keep p U) q)) (sym e))
       (λ q. subst Stable (sym (rounds-go n (keep p U) q))
-          (⊎-elim (λ e. subst Stable (sym (stable-rounds n (grow U leads (keep p U)) (ap (grow U leads) e))) (ap (grow U leads) e))
-          (λ l. settles n (joins U leads (keep p U)) (omega arith))
-          (keep-more p (joins U leads (keep p U)) U (kept-joins p))))
+      (⊎-elim (λ e. subst Stable (sym (stable-rounds n (grow U leads (keep p U)) (ap (grow U leads) e))) (ap (grow U leads) e))
+      (λ l. settles n (joins U leads (keep p U)) (omega arith))
+      (keep-more p (joins U leads (keep p U)) U (kept-joins p))))
       (true-or-false (same (keep p U) (grow U leads (keep p U))))
 
   -- what is kept is reached
@@ -89,9 +89,10 @@ module _ (U : List ℕ) (leads : ℕ → ℕ → Bool) where
 
   -- where what leads on lies in the universe, the members are just what is reached
   pub saturated : ((j k : ℕ) → leads j k ≡ true → List·Memᴰ j U) → (s : List ℕ) (k : ℕ) → List·Memᴰ k (saturate U leads s) ↔ Reach U leads s k
-  saturated inside s k =
-      ( sound s (length U) (grow U leads s) (grow-sound s s (λ i j w e. base (inside i j e) w) (λ i w u. base u w)) k
-      , complete s k )
+  saturated inside s k = (
+    sound s (length U) (grow U leads s) (grow-sound s s (λ i j w e. base (inside i j e) w) (λ i w u. base u w)) k,
+    complete s k,
+  )
 
   rounds-increasing : (n : ℕ) (s : List ℕ) → Increasing U → Increasing s → Increasing (rounds U leads n s)
   rounds-increasing zero s u h = h

@@ -90,7 +90,7 @@ module _ (g : Grammar) (u : Sound g) where
         let (s, v) = moves-when g u n 0 (g .start) (symbols g) [] [] (record { number = 0; has = zero-has; is = item-zero g }) in
         let e = ends g u n v in
         let m = carried-members g (e .from) (g .start) 1 .1
-                (record { from = 0; member = subst (List·Memᴰ 0) (some-one (zero-has .at) (e .at)) (zero-has .member); left = symbols g; before = []; after = []; item = item-zero g; number = refl }) in
+        (record { from = 0; member = subst (List·Memᴰ 0) (some-one (zero-has .at) (e .at)) (zero-has .member); left = symbols g; before = []; after = []; item = item-zero g; number = refl }) in
         (s, v, move-closed g u n e .1 (kernel m (omega arith)))
 
     final-move : (s : ℕ) → FinalState states s → List·Memᴰ (0, g .start, s) moves
@@ -128,6 +128,16 @@ module _ (g : Grammar) (u : Sound g) where
 
     pub machine-laws : MachineLaws g states moves
     machine-laws =
-        record { zeroth = state-zero g u n; unentered = zero-unentered; closed = state-closed; moves-when = moves-when g u n; carries = state-carries
-               ; moves-only = moves-only g u n; move-one = λ s x p q v w. move-one n v w; final = final-state; final-one = final-one; final-entered = final-entered
-               ; one = λ sets arrows m. machine-unique g n m }
+        record {
+          zeroth = state-zero g u n;
+          unentered = zero-unentered;
+          closed = state-closed;
+          moves-when = moves-when g u n;
+          carries = state-carries;
+          moves-only = moves-only g u n;
+          move-one = λ s x p q v w. move-one n v w;
+          final = final-state;
+          final-one = final-one;
+          final-entered = final-entered;
+          one = λ sets arrows m. machine-unique g n m;
+        }

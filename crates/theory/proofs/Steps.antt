@@ -18,9 +18,15 @@ derives-more d s = derives-trans (more s done) d
 
 pub step-front : {g : Grammar} {xs ys : List ℕ} (u : List ℕ) → Step g xs ys → Step g (xs ++ u) (ys ++ u)
 step-front u s =
-    record { before = s .before; name = s .name; side = s .side; after = s .after ++ u; rewrites = s .rewrites
-           ; from = ap (λ l. l ++ u) (s .from) ∙ append-assoc (s .before) (s .name ∷ s .after) u
-           ; to = ap (λ l. l ++ u) (s .to) ∙ append-assoc (s .before) (s .side ++ s .after) u ∙ ap (λ l. s .before ++ l) (append-assoc (s .side) (s .after) u) }
+    record {
+      before = s .before;
+      name = s .name;
+      side = s .side;
+      after = s .after ++ u;
+      rewrites = s .rewrites;
+      from = ap (λ l. l ++ u) (s .from) ∙ append-assoc (s .before) (s .name ∷ s .after) u;
+      to = ap (λ l. l ++ u) (s .to) ∙ append-assoc (s .before) (s .side ++ s .after) u ∙ ap (λ l. s .before ++ l) (append-assoc (s .side) (s .after) u);
+    }
 
 pub derives-front : {g : Grammar} {ys : List ℕ} (u : List ℕ) {xs : List ℕ} → DerivedFrom g ys xs → DerivedFrom g (ys ++ u) (xs ++ u)
 derives-front u done = done

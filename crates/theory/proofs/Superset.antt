@@ -37,15 +37,22 @@ module _ {g : Grammar} {G : Graph} (m : Lawful g G) {f : Acceptor} (fl : Flat g 
   through (word {x = x} {xs = xs} h y) {q} k {a} {l} i =
       let (p, v) = m .move-when i in
       let t = through y (over k v) (carry i v) in
-      record { last = t .last; leads = on v (t .leads); reads = arc (fl .arcs q x p .1 (v, h)) (t .reads)
-             ; item = subst (λ k. G .Item (t .last) a k []) (append-assoc l (x ∷ []) xs) (t .item) }
+      record {
+        last = t .last;
+        leads = on v (t .leads);
+        reads = arc (fl .arcs q x p .1 (v, h)) (t .reads);
+        item = subst (λ k. G .Item (t .last) a k []) (append-assoc l (x ∷ []) xs) (t .item);
+      }
   through (name {a = c} {xs = xs} r d y) {q} {γ} k {a} {l} i =
       let (p, v) = m .move-when i in
       let s = through d k (closes k i r) in
       let t = through y (over k v) (carry i v) in
-      record { last = t .last; leads = on v (t .leads)
-             ; reads = reads-++ (s .reads) (jump (fl .jumps (s .last) p .1 (record { left = c; side = _; from = q; rewrites = r; item = s .item; leads = s .leads; over = v })) (t .reads))
-             ; item = subst (λ k. G .Item (t .last) a k []) (append-assoc l (c ∷ []) xs) (t .item) }
+      record {
+        last = t .last;
+        leads = on v (t .leads);
+        reads = reads-++ (s .reads) (jump (fl .jumps (s .last) p .1 (record { left = c; side = _; from = q; rewrites = r; item = s .item; leads = s .leads; over = v })) (t .reads));
+        item = subst (λ k. G .Item (t .last) a k []) (append-assoc l (c ∷ []) xs) (t .item);
+      }
 
   -- reading w leads from place 0 to one that holds S' → start ·
   pub record Accepted (w : List ℕ) : Type 0 where

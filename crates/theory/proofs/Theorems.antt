@@ -65,9 +65,12 @@ module _ (g : Grammar) (u : Sound g) where
   over : {n : Meaning} {f : Acceptor} → Flattened g n f → {states : List (List ℕ)} {moves : List Arrow} → Machine g states moves → Over n f states moves
   over {n} {f} h {states} {moves} mt =
       let (s, v) = machine-unique g (h .machine) mt in
-      record { nodes = h .nodes; arrows = h .unfolded-moves
-             ; unfolds = subst (λ a. Unfolded n a (symbols g) (h .nodes) (h .unfolded-moves)) v (h .unfolded)
-             ; flattens = subst (λ a. FlattenedFrom g a (h .nodes) (h .unfolded-moves) f) s (h .flat) }
+      record {
+        nodes = h .nodes;
+        arrows = h .unfolded-moves;
+        unfolds = subst (λ a. Unfolded n a (symbols g) (h .nodes) (h .unfolded-moves)) v (h .unfolded);
+        flattens = subst (λ a. FlattenedFrom g a (h .nodes) (h .unfolded-moves) f) s (h .flat);
+      }
 
   pub finer : (m n : Meaning) → FinerOn g m n → (e f : Acceptor) → Flattened g m e → Flattened g n f → (w : List ℕ) → Passes e w → Passes f w
   finer m n k e f h i w p = let o = over i (h .machine) in finer-on m n k e f (h .machine) (h .unfolded) (o .unfolds) (h .flat) (o .flattens) w p
@@ -84,12 +87,17 @@ all-laws g u = record { nothing-lost = nothing-lost g u; exact = exact g u; fine
 
 pub foundations : Foundations
 foundations =
-    record { item-numbers = items-length
-           ; item-at = λ g k a l r. (dotted-only g k, dotted-at g k)
-           ; item-next = λ g k a x l r d. dotted-next g k d
-           ; closure-members = closure-members; closure-increases = closure-increasing
-           ; goto-moves = λ g set x k c. goto-carried g set x c; goto-stays = goto-none; carried-members = carried-members
-           ; machine = λ g u states moves mt. machine-laws g u mt
-           ; unfolding-laws = λ g u states moves mt m nodes arrows un. unfolding-laws g u mt m un
-           ; jumps = λ g u states moves mt m nodes arrows un. jump-laws g u mt m un
-           ; policies = policy-laws }
+    record {
+      item-numbers = items-length;
+      item-at = λ g k a l r. (dotted-only g k, dotted-at g k);
+      item-next = λ g k a x l r d. dotted-next g k d;
+      closure-members = closure-members;
+      closure-increases = closure-increasing;
+      goto-moves = λ g set x k c. goto-carried g set x c;
+      goto-stays = goto-none;
+      carried-members = carried-members;
+      machine = λ g u states moves mt. machine-laws g u mt;
+      unfolding-laws = λ g u states moves mt m nodes arrows un. unfolding-laws g u mt m un;
+      jumps = λ g u states moves mt m nodes arrows un. jump-laws g u mt m un;
+      policies = policy-laws;
+    }

@@ -37,8 +37,8 @@ pub along-mem : (ms : List Arrow) {s x t : ℕ} → along ms s x ≡ some t → 
 along-mem [] e = absurd (none-some refl e)
 along-mem ((q, y, p) ∷ ms) {s} {x} {t} e =
     ⊎-elim (λ h. let (f, g) = and-only (eqb q s) (eqb y x) h in
-               let a : s ≡ q = sym (eqb-true q s f) in let c : x ≡ y = sym (eqb-true y x g) in
-               let d : t ≡ p = some-one e (along-hit q y p ms s x h) in List·Memᴰ·head (λ i. (a i, c i, d i)))
+    let a : s ≡ q = sym (eqb-true q s f) in let c : x ≡ y = sym (eqb-true y x g) in
+    let d : t ≡ p = some-one e (along-hit q y p ms s x h) in List·Memᴰ·head (λ i. (a i, c i, d i)))
     (λ h. List·Memᴰ·tail (along-mem ms (sym (along-miss q y p ms s x h) ∙ e)))
     (true-or-false (and (eqb q s) (eqb y x)))
 
@@ -47,10 +47,10 @@ along-has [] m = absurd (List·Memᴰ·not-nil m)
 along-has ((q, y, o) ∷ ms) {s} {x} {p} m =
     ⊎-elim (λ h. (o, along-hit q y o ms s x h))
     (λ h. ⊎-elim
-        (λ e. let a : q ≡ s = sym (ap (λ (t : Arrow). t .0) e) in let c : y ≡ x = sym (ap (λ (t : Arrow). t .1) e) in
-            (o, along-hit q y o ms s x (and-is (eqb q s) (eqb y x) (eq-eqb q s a) (eq-eqb y x c))))
-        (λ k. let (t, e) = along-has ms k in (t, along-miss q y o ms s x h ∙ e))
-        (List·Memᴰ·cases-cons m))
+    (λ e. let a : q ≡ s = sym (ap (λ (t : Arrow). t .0) e) in let c : y ≡ x = sym (ap (λ (t : Arrow). t .1) e) in
+    (o, along-hit q y o ms s x (and-is (eqb q s) (eqb y x) (eq-eqb q s a) (eq-eqb y x c))))
+    (λ k. let (t, e) = along-has ms k in (t, along-miss q y o ms s x h ∙ e))
+    (List·Memᴰ·cases-cons m))
     (true-or-false (and (eqb q s) (eqb y x)))
 
 pub record Onward (m : Meaning) (ms : List Arrow) (n : Node) (x : ℕ) (v : Node) : Type 0 where
@@ -107,9 +107,12 @@ module _ (g : Grammar) (u : Sound g) {states : List (List ℕ)} {moves : List Ar
   trail-on {q} {x} {p} {k} {n} d v e t =
       let f = edge d v in
       let stack : List (ℕ × ℕ) = (k .state, x) ∷ t .stack in
-      record { stack = stack
-             ; stacked = subst (λ (k : Node). Stacked moves m stack (k .state) (k .class)) (some-one (f .at) e) (push (t .stacked) (f .move))
-             ; way = t .way ++ (x ∷ []); leads = leads-on (t .leads) (on v here) }
+      record {
+        stack = stack;
+        stacked = subst (λ (k : Node). Stacked moves m stack (k .state) (k .class)) (some-one (f .at) e) (push (t .stacked) (f .move));
+        way = t .way ++ (x ∷ []);
+        leads = leads-on (t .leads) (on v here);
+      }
 
   trail : (bound p : ℕ) → p < bound → {n : Node} → getElem? nodes p ≡ some n → Trail p n
   trail zero p h e = absurd (omega arith)
@@ -170,11 +173,13 @@ module _ (g : Grammar) (u : Sound g) {states : List (List ℕ)} {moves : List Ar
 
   pub graph-lawful : Lawful g graph
   graph-lawful =
-      record { zeroth-items = λ {a} {l} {r}. first a l r
-             ; move-items = λ {p} {q} {x} {a} {l} {r} v. next p q x a l r v
-             ; move-when = λ {q} {x} {a} {l} {r} i. when q x a l r i
-             ; move-only = λ {q} {p} {x} v. only q p x v
-             ; reached = λ {q} {p} {x} v. let (n, e) = entry-left un v in let t = trail (suc q) q (omega arith) e in (t .way, t .leads) }
+      record {
+        zeroth-items = λ {a} {l} {r}. first a l r;
+        move-items = λ {p} {q} {x} {a} {l} {r} v. next p q x a l r v;
+        move-when = λ {q} {x} {a} {l} {r} i. when q x a l r i;
+        move-only = λ {q} {p} {x} v. only q p x v;
+        reached = λ {q} {p} {x} v. let (n, e) = entry-left un v in let t = trail (suc q) q (omega arith) e in (t .way, t .leads);
+      }
     where
       first : (a : ℕ) (l r : List ℕ) → NodeHolds g states nodes 0 a l r ↔ Closes g (Outset g) a l r
       first a l r =
@@ -183,12 +188,16 @@ module _ (g : Grammar) (u : Sound g) {states : List (List ℕ)} {moves : List Ar
       next : (p q x a : ℕ) (l r : List ℕ) → List·Memᴰ (q, x, p) arrows → NodeHolds g states nodes p a l r ↔ Closes g (Over (NodeHolds g states nodes q) x) a l r
       next p q x a l r v =
           let (n, d) = entry-left un v in
-          let e = edge d v in
-          ( (λ i. closes-map (λ a l r c. record { rest = c .rest; was = record { its = n; at = d; holds = c .was }; is = c .is })
-                (moved g u mt (n .state) x (e .target) (e .move) a l r .0 (item-of p (e .at) i)))
-          , (λ c. record { its = node (e .target) (m .next (n .class) (n .state) x (e .target)); at = e .at
-                         ; holds = moved g u mt (n .state) x (e .target) (e .move) a l r .1
-                                   (closes-map (λ a l r c. record { rest = c .rest; was = item-of q d (c .was); is = c .is }) c) }) )
+          let e = edge d v in (
+            (λ i. closes-map (λ a l r c. record { rest = c .rest; was = record { its = n; at = d; holds = c .was }; is = c .is })
+                (moved g u mt (n .state) x (e .target) (e .move) a l r .0 (item-of p (e .at) i))),
+            (λ c. record {
+              its = node (e .target) (m .next (n .class) (n .state) x (e .target));
+              at = e .at;
+              holds = moved g u mt (n .state) x (e .target) (e .move) a l r .1
+                  (closes-map (λ a l r c. record { rest = c .rest; was = item-of q d (c .was); is = c .is }) c);
+            }),
+          )
 
       when : (q x a : ℕ) (l r : List ℕ) → NodeHolds g states nodes q a l (x ∷ r) → (p : ℕ) × List·Memᴰ (q, x, p) arrows
       when q x a l r i =

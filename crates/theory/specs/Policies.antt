@@ -52,8 +52,10 @@ last k = record { first = states []; next = λ c left symbol reached. states (ta
 -- the classes of two meanings side by side
 abbrev pub both : Meaning → Meaning → Meaning
 both m n =
-    record { first = pair (m .first) (n .first)
-           ; next = λ c left symbol reached. pair (m .next (left-class c) left symbol reached) (n .next (right-class c) left symbol reached) }
+    record {
+      first = pair (m .first) (n .first);
+      next = λ c left symbol reached. pair (m .next (left-class c) left symbol reached) (n .next (right-class c) left symbol reached);
+    }
 
 -- a stack of (state left, symbol) pairs, the newest first, leads from state 0 to a state and has a class
 pub data Stacked (moves : List Arrow) (m : Meaning) : List (ℕ × ℕ) → ℕ → Class → Type 0 where
