@@ -6,11 +6,11 @@ use mathlib.Core.List.{List, [], _∷_, _++_, append-assoc, append-nil, List·Me
 use native.Mathlib.Omega.{arith}
 use Prim.Native.Nat.{ℕ, zero, suc, _+_, _≤_, _<_}
 use lib.ListN.{length, take, getElem?}
-use Rattle.std.specs.shelf.Lists.{All, sumBy, joined}
+use Rattle.std.specs.shelf.Lists.{All, joined}
 use Rattle.std.proofs.shelf.Lists.{length-append}
-use Rattle.std.proofs.shelf.Sums.{sumBy-cons}
 use Rattle.book.specs.Grammar.{Rule, rule, Grammar, symbols, Rewrites}
-use Rattle.theory.specs.Items.{Item, item, dots, rule-items, items, Dotted, rules-count, item-count, first-item, Sound, Numbers}
+use Rattle.book.specs.Tables.{Fit, FitRule, dots as rules-count}
+use Rattle.theory.specs.Items.{Item, item, dots, rule-items, items, Dotted, item-count, first-item, Sound, Numbers}
 use Rattle.theory.specs.Items.Numbers.{added, ruled}
 use Rattle.theory.proofs.Lists.{some-one, none-some, all-mem, at-left, at-right, Later, at-split, at-below, below-at, at-mem, mem-at}
 
@@ -72,7 +72,6 @@ joined-length [] = refl
 joined-length (r ∷ rs) =
     let h = joined-length rs in
     let k = dots-length (r .left) [] (r .right) in
-    let s = sumBy-cons (λ (r : Rule). length (r .right) + 1) r rs in
     let n = length-append (rule-items r) (joined rule-items rs) in omega arith
 
 joined-only : (rs : List Rule) (k : ℕ) {a : ℕ} {m s : List ℕ} → getElem? (joined rule-items rs) k ≡ some (item a m s) → InRule rs k a m s
@@ -84,7 +83,6 @@ joined-only (r ∷ rs) k {a} {m} {s} e =
     (λ (l : Later (rule-items r) (joined rule-items rs) k (item a m s)).
     let i = joined-only rs (l .place) (l .at) in
     let n = l .number in let h = i .number in
-    let c = sumBy-cons (λ (r : Rule). length (r .right) + 1) r (take (i .place) rs) in
     let d = dots-length (r .left) [] (r .right) in
     record { place = suc (i .place); its = i .its; at = i .at; number = omega arith; left = i .left; whole = i .whole })
     (at-split (rule-items r) (joined rule-items rs) k e)
@@ -96,7 +94,6 @@ joined-at (q ∷ rs) zero r m s h e =
     let n : rules-count [] + length m ≡ length m = omega arith in
     ap (getElem? (joined rule-items (q ∷ rs))) n ∙ at-left (rule-items q) (joined rule-items rs) (length m) (ap (λ k. getElem? (rule-items k) (length m)) p ∙ rule-at r m s e)
 joined-at (q ∷ rs) (suc i) r m s h e =
-    let c = sumBy-cons (λ (r : Rule). length (r .right) + 1) q (take i rs) in
     let d = dots-length (q .left) [] (q .right) in
     let n : rules-count (take (suc i) (q ∷ rs)) + length m ≡ length (rule-items q) + (rules-count (take i rs) + length m) = omega arith in
     ap (getElem? (joined rule-items (q ∷ rs))) n ∙ at-right (rule-items q) (joined rule-items rs) (rules-count (take i rs) + length m) ∙ joined-at rs i r m s h e
@@ -188,3 +185,14 @@ item-zero g = refl
 
 pub item-one : (g : Grammar) → Dotted g 1 (symbols g) (g .start ∷ []) []
 item-one g = refl
+
+-- every grammar of a book is sound
+pub fit-sound : (g : Grammar) → Fit g → Sound g
+fit-sound g f =
+    record {
+      start-named = f .start .0;
+      start-known = f .start .1;
+      lefts-named = λ r m. all-mem (FitRule g) (g .rules) (f .each) m .left .0;
+      lefts-known = λ r m. all-mem (FitRule g) (g .rules) (f .each) m .left .1;
+      rights-known = λ r m. all-mem (FitRule g) (g .rules) (f .each) m .right;
+    }

@@ -7,8 +7,9 @@ use mathlib.Core.Option.{Option, none, some}
 use mathlib.Core.List.{List, [], _∷_, _++_, List·Memᴰ}
 use Prim.Native.Nat.{ℕ, _+_, _≤_, _<_}
 use lib.ListN.{length, take, getElem?}
-use Rattle.std.specs.shelf.Lists.{All, sumBy, joined}
+use Rattle.std.specs.shelf.Lists.{All, joined}
 use Rattle.book.specs.Grammar.{Rule, Grammar, symbols}
+use Rattle.book.specs.Tables.{dots as rules-count, items as count}
 
 -- left → before · after
 pub record Item : Type 0 where
@@ -36,13 +37,9 @@ items g = dots (symbols g) [] (g .start ∷ []) ++ joined rule-items (g .rules)
 abbrev pub Dotted : Grammar → ℕ → ℕ → List ℕ → List ℕ → Type 0
 Dotted g k a l r = getElem? (items g) k ≡ some (item a l r)
 
--- how many items some rules have
-abbrev pub rules-count : List Rule → ℕ
-rules-count rules = sumBy (λ r. length (r .right) + 1) rules
-
 -- how many items there are: two for the added rule, and n + 1 for a rule of length n
 abbrev pub item-count : Grammar → ℕ
-item-count g = 2 + rules-count (g .rules)
+item-count g = count g
 
 -- the number of the first item of the rule at a place
 abbrev pub first-item : Grammar → ℕ → ℕ
