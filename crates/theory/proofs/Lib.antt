@@ -15,5 +15,6 @@ pub mod States
 pub mod Unfolding
 pub mod Finer
 pub mod Flattening
+pub mod Arcs
 pub mod Policies
 pub mod Theorems

@@ -10,6 +10,7 @@ use lib.Dec.{eqb}
 use lib.ListN.{length, getElem?}
 use borrow.Author.Tests.{eq-eqb, eqb-true}
 use Rattle.std.specs.shelf.Lists.{All}
+use Rattle.std.proofs.shelf.Elements.{all-append}
 use Rattle.finding.specs.Numbered.{upto}
 use Rattle.theory.specs.Lists.{Ascending, Increasing, and, or, keep, any, same}
 
@@ -134,6 +135,13 @@ ascending-push less (y ∷ ys) x h k = (pushed ys (h .0), ascending-push less ys
     pushed : (zs : List _) → All (less y) zs → All (less y) (zs ++ (x ∷ []))
     pushed [] a = (k .0, tt)
     pushed (z ∷ zs) a = (a .0, pushed zs (a .1))
+
+pub ascending-append : {A : Type 0} (less : A → A → Type 0) (xs ys : List A) → Ascending less xs → Ascending less ys → ((x y : A) → List·Memᴰ x xs → List·Memᴰ y ys → less x y) → Ascending less (xs ++ ys)
+ascending-append less [] ys h k f = k
+ascending-append less (x ∷ xs) ys h k f = (
+  all-append (less x) xs ys (h .0) (all-from-mem (less x) ys (λ y m. f x y (List·Memᴰ·head refl) m)),
+  ascending-append less xs ys (h .1) k (λ a b m n. f a b (List·Memᴰ·tail m) n),
+)
 
 -- two ascending lists with the same elements are equal
 module _ {A : Type 0} {less : A → A → Type 0} (apart : (x y : A) → less x y → less y x → ⊥) where

@@ -209,7 +209,7 @@ rows-only {es = es} {step} {i = i} {q = q} {x} {p} (row {a = a} {bs = bs} {ms = 
     (λ k. let o = rows-only rs k in record { place = suc (o .place); number = (let n = o .number in omega arith); entry = o .entry; at = o .at; made = o .made })
     (List·Memᴰ·append-cases ms m)
 
-row-symbol : {A : Type 0} {es : List A} {step : ℕ → Option A} {i : ℕ} {xs : List ℕ} {ms : List Arrow} {q x p : ℕ} → Row es step i xs ms → List·Memᴰ (q, x, p) ms → List·Memᴰ x xs
+pub row-symbol : {A : Type 0} {es : List A} {step : ℕ → Option A} {i : ℕ} {xs : List ℕ} {ms : List Arrow} {q x p : ℕ} → Row es step i xs ms → List·Memᴰ (q, x, p) ms → List·Memᴰ x xs
 row-symbol row-end m = absurd (List·Memᴰ·not-nil m)
 row-symbol (pass h r) m = List·Memᴰ·tail (row-symbol r m)
 row-symbol (go u h l r) m = ⊎-elim (λ w. List·Memᴰ·head (ap (λ (t : Arrow). t .1) w)) (λ k. List·Memᴰ·tail (row-symbol r k)) (List·Memᴰ·cases-cons m)

@@ -3,10 +3,11 @@ use mathlib.Core.Path.{_≡_}
 use mathlib.Core.Logic.{_↔_, _⊎_}
 use mathlib.Core.List.{List, [], _∷_, List·Memᴰ}
 use Prim.Native.Nat.{ℕ, _<_}
+use lib.Dec.{ltb}
 use lib.ListN.{length}
 use Rattle.book.specs.Grammar.{Grammar, symbols, Rewrites}
 use Rattle.finding.specs.Numbered.{Arrow}
-use Rattle.theory.specs.Lists.{Ascending}
+use Rattle.theory.specs.Lists.{Ascending, keep}
 use Rattle.theory.specs.Machine.{Machine}
 use Rattle.theory.specs.Policies.{Meaning}
 use Rattle.theory.specs.Unfolding.{Node, Unfolded, NodeHolds, FinalNode}
@@ -18,6 +19,10 @@ pub record Acceptor : Type 0 where
   pub final : ℕ
   pub arcs : List Arrow
   pub jumps : List (ℕ × ℕ)
+
+-- the moves on words, in their order
+abbrev pub word-moves : ℕ → List Arrow → List Arrow
+word-moves words moves = keep (λ a. ltb (a .1) words) moves
 
 -- moves lead from one number to another over a list of symbols
 pub data Leads (moves : List Arrow) : ℕ → List ℕ → ℕ → Type 0 where
