@@ -1,0 +1,9 @@
+pub mod Lists
+pub mod Items
+pub mod Closure
+pub mod Machine
+pub mod Policies
+pub mod Unfolding
+pub mod Flattening
+pub mod Sentences
+pub mod Laws
