@@ -26,18 +26,19 @@ module _ {A : Type 0} {w : Bounded A} where
   leads-same : {p : Place A} {t u : A} → Leads w p t → Leads w p u → t ≡ u
   leads-same {p} {t} {u} a b =
       let e : a .at ≡ b .at = some-same (sym (a .stands) ∙ b .stands) in
-      some-same (sym (a .goes) ∙ ap (λ v. w .search .step v (p .symbol)) e ∙ b .goes)
+      some-same (sym (a .goes) ∙ ap (λ v. w .sought .step v (p .symbol)) e ∙ b .goes)
     where
       some-same : {x y : A} → _≡_ {A = Option A} (some x) (some y) → x ≡ y
       some-same h = cc
 
-  leads-rests : {p : Place A} {t a : A} → Leads w p t → StandsAt (p .entries) (p .entry) a → w .search .step a (p .symbol) ≡ none → ⊥
+  leads-rests : {p : Place A} {t a : A} → Leads w p t → StandsAt (p .entries) (p .entry) a → w .sought .step a (p .symbol) ≡ none → ⊥
   leads-rests {p} {t} {a} l s n =
       let e : a ≡ l .at = some-same (sym s ∙ l .stands) in
-      never (sym n ∙ ap (λ v. w .search .step v (p .symbol)) e ∙ l .goes)
+      never (sym n ∙ ap (λ v. w .sought .step v (p .symbol)) e ∙ l .goes)
     where
       some-same : {x y : A} → _≡_ {A = Option A} (some x) (some y) → x ≡ y
       some-same h = cc
+
       never : {x : A} → _≡_ {A = Option A} none (some x) → ⊥
       never h = let z : _≡_ {A = ℕ} 0 1 = cc in omega arith
 
@@ -77,7 +78,7 @@ module _ {A : Type 0} {w : Bounded A} where
   stopped-stuck : {p : Place A} {s : Stop} → Stopped w p s → (q : Place A) → Turn w p q → ⊥
   stopped-stuck (no-room t l h n) q (pass a s b g) = leads-rests l s g
   stopped-stuck (no-room t l h n) q (old t′ j l′ h′ m) = moves-on l l′ h j h′
-  stopped-stuck {p} (no-room t l h n) q (new t′ l′ h′ r e m) = n (subst (λ v. w .search .room (p .entries) v) (leads-same l′ l) r)
+  stopped-stuck {p} (no-room t l h n) q (new t′ l′ h′ r e m) = n (subst (λ v. w .sought .room (p .entries) v) (leads-same l′ l) r)
   stopped-stuck (no-room t l h n) q (next i x) = omega (arith, l .below)
   stopped-stuck (no-entry t l h r n) q (pass a s b g) = leads-rests l s g
   stopped-stuck (no-entry t l h r n) q (old t′ j l′ h′ m) = moves-on l l′ h j h′
@@ -119,15 +120,15 @@ module _ {A : Type 0} {w : Bounded A} where
 
   stopped-same : {p : Place A} {s s′ : Stop} → Stopped w p s → Stopped w p s′ → s ≡ s′
   stopped-same (no-room t l h n) (no-room t′ l′ h′ n′) = refl
-  stopped-same {p} (no-room t l h n) (no-entry t′ l′ h′ r′ n′) = absurd (n (subst (λ v. w .search .room (p .entries) v) (leads-same l′ l) r′))
+  stopped-same {p} (no-room t l h n) (no-entry t′ l′ h′ r′ n′) = absurd (n (subst (λ v. w .sought .room (p .entries) v) (leads-same l′ l) r′))
   stopped-same (no-room t l h n) (no-move t′ l′ (inl a) n′) = absurd (moves-on l l′ h (a .0) (a .1))
-  stopped-same {p} (no-room t l h n) (no-move t′ l′ (inr a) n′) = absurd (n (subst (λ v. w .search .room (p .entries) v) (leads-same l′ l) (a .1)))
-  stopped-same {p} (no-entry t l h r n) (no-room t′ l′ h′ n′) = absurd (n′ (subst (λ v. w .search .room (p .entries) v) (leads-same l l′) r))
+  stopped-same {p} (no-room t l h n) (no-move t′ l′ (inr a) n′) = absurd (n (subst (λ v. w .sought .room (p .entries) v) (leads-same l′ l) (a .1)))
+  stopped-same {p} (no-entry t l h r n) (no-room t′ l′ h′ n′) = absurd (n′ (subst (λ v. w .sought .room (p .entries) v) (leads-same l l′) r))
   stopped-same (no-entry t l h r n) (no-entry t′ l′ h′ r′ n′) = refl
   stopped-same (no-entry t l h r n) (no-move t′ l′ (inl a) n′) = absurd (moves-on l l′ h (a .0) (a .1))
   stopped-same (no-entry t l h r n) (no-move t′ l′ (inr a) n′) = absurd (omega (arith, a .2))
   stopped-same (no-move t l (inl a) n) (no-room t′ l′ h′ n′) = absurd (moves-on l′ l h′ (a .0) (a .1))
-  stopped-same {p} (no-move t l (inr a) n) (no-room t′ l′ h′ n′) = absurd (n′ (subst (λ v. w .search .room (p .entries) v) (leads-same l l′) (a .1)))
+  stopped-same {p} (no-move t l (inr a) n) (no-room t′ l′ h′ n′) = absurd (n′ (subst (λ v. w .sought .room (p .entries) v) (leads-same l l′) (a .1)))
   stopped-same (no-move t l (inl a) n) (no-entry t′ l′ h′ r′ n′) = absurd (moves-on l′ l h′ (a .0) (a .1))
   stopped-same (no-move t l (inr a) n) (no-entry t′ l′ h′ r′ n′) = absurd (omega (arith, a .2))
   stopped-same (no-move t l a n) (no-move t′ l′ a′ n′) = refl

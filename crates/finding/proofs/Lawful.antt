@@ -90,9 +90,9 @@ target-mem step zero x a t h g = absurd (omega arith)
 target-mem {A} step (suc n) x a t h g =
     subst (List·Memᴰ t) (sym (targets-++ step (upto n) (n ∷ []) a))
     (⊎-elim (λ l. Memᴰ·append-left _ (target-mem step n x a t l g))
-     (λ l. let e : x ≡ n = omega arith in
-       Memᴰ·append-right (targets step (upto n) a) (subst (List·Memᴰ t) (sym (ap (λ (o : Option A). pick o []) (ap (step a) (sym e) ∙ g))) (List·Memᴰ·head refl)))
-     (cases-lt x n))
+    (λ l. let e : x ≡ n = omega arith in
+    Memᴰ·append-right (targets step (upto n) a) (subst (List·Memᴰ t) (sym (ap (λ (o : Option A). pick o []) (ap (step a) (sym e) ∙ g))) (List·Memᴰ·head refl)))
+    (cases-lt x n))
 
 all-mem : {A : Type 0} (f : A → List A) (es : List A) (i : ℕ) (a t : A) → StandsAt es i a → List·Memᴰ t (f a) → List·Memᴰ t (all f es)
 all-mem f [] i a t s m = let z : _≡_ {A = ℕ} 0 1 = cc in absurd (omega arith)
@@ -192,26 +192,27 @@ module _ {A : Type 0} (step : A → ℕ → Option A) (n : ℕ) (start : A) wher
       only (b ∷ (d ∷ before)) after e q ne = let z : _≡_ {A = ℕ} 0 1 = cc in absurd (omega arith)
 
 abbrev KnownAt : {A : Type 0} (w : Bounded A) (start : A) → Place A → Type 0
-KnownAt w start p = Known (w .search .step) (w .search .symbols) start (p .entries) (p .moves) (p .entry) (p .symbol)
+KnownAt w start p = Known (w .sought .step) (w .sought .symbols) start (p .entries) (p .moves) (p .entry) (p .symbol)
 
 module _ {A : Type 0} {w : Bounded A} (start : A) where
   known-turn : {p q : Place A} → KnownAt w start p → Turn w p q → KnownAt w start q
   known-turn k (pass a s b g) = known-pass _ _ _ a s g k
   known-turn k (old t j l h m) = known-old _ _ _ (l .at) t j (l .stands) (l .goes) h k
   known-turn k (new t l h r e m) = known-new _ _ _ (l .at) t (l .stands) (l .below) (l .goes) h k
-  known-turn {p} k (next i x) = known-next _ _ _ i (subst (λ y. Known (w .search .step) (w .search .symbols) start (p .entries) (p .moves) (p .entry) y) x k)
+  known-turn {p} k (next i x) = known-next _ _ _ i (subst (λ y. Known (w .sought .step) (w .sought .symbols) start (p .entries) (p .moves) (p .entry) y) x k)
 
   known : {p q : Place A} → KnownAt w start p → Turns w p q → KnownAt w start q
   known k stay = k
   known k (more f t) = known-turn (known k f) t
 
-  pub whole-numbered : {es : List A} {ms : List Arrow} → Whole w start es ms → Numbered (w .search .step) (upto (w .search .symbols)) start es ms
+  pub whole-numbered : {es : List A} {ms : List Arrow} → Whole w start es ms → Numbered (w .sought .step) (upto (w .sought .symbols)) start es ms
   whole-numbered {es} {ms} f =
-      let k = known (known-start (w .search .step) (w .search .symbols) start) (f .1) in
+      let k = known (known-start (w .sought .step) (w .sought .symbols) start) (f .1) in
       let all-of : take (length es) es ≡ es = take-all (length es) es (omega arith) in
-      let none-left : k .begun ≡ [] = subst (λ (o : Option A). RowOf (w .search .step) (w .search .symbols) start es (length es) 0 (k .begun) o) (stands-past es) (k .row) in
+      let none-left : k .begun ≡ [] = subst (λ (o : Option A). RowOf (w .sought .step) (w .sought .symbols) start es (length es) 0 (k .begun) o) (stands-past es) (k .row) in
       let done-is : k .done ≡ ms = sym (append-nil (k .done)) ∙ ap (λ l. k .done ++ l) (sym none-left) ∙ sym (k .joined) in
-      let e : all (targets (w .search .step) (upto (w .search .symbols))) (take (length es) es) ++ led (w .search .step) (w .search .symbols) start (getElem? es (length es)) 0 ≡ all (targets (w .search .step) (upto (w .search .symbols))) es = ap (λ l. all (targets (w .search .step) (upto (w .search .symbols))) (take (length es) es) ++ l) (led-zero (w .search .step) (w .search .symbols) start (getElem? es (length es))) ∙ append-nil _ ∙ ap (all (targets (w .search .step) (upto (w .search .symbols)))) all-of in
+      let e : all (targets (w .sought .step) (upto (w .sought .symbols))) (take (length es) es) ++ led (w .sought .step) (w .sought .symbols) start (getElem? es (length es)) 0 ≡ all (targets (w .sought .step) (upto (w .sought .symbols))) es = ap (λ l. all (targets (w .sought .step) (upto (w .sought .symbols))) (take (length es) es) ++ l) (led-zero (w .sought .step) (w .sought .symbols) start (getElem? es (length es))) ∙ append-nil _ ∙ ap (all (targets (w .sought .step) (upto (w .sought .symbols)))) all-of in
       record {
         found = record { in-order = subst (λ l. Firsts [] (start ∷ l) es) e (k .firsts); earlier = k .earlier };
-        rows = subst (λ l. Rows es (w .search .step) (upto (w .search .symbols)) 0 es l) done-is (subst (λ (l : List A). Rows es (w .search .step) (upto (w .search .symbols)) 0 l (k .done)) all-of (k .rows)) }
+        rows = subst (λ l. Rows es (w .sought .step) (upto (w .sought .symbols)) 0 es l) done-is (subst (λ (l : List A). Rows es (w .sought .step) (upto (w .sought .symbols)) 0 l (k .done)) all-of (k .rows));
+      }

@@ -91,10 +91,10 @@ row-only (pass h r) m k = let (a, b, c) = row-only r m k in (a, List·Memᴰ·ta
 row-only {es = es} {st} {i} (go {x = y} {j = j} u h l r) m k =
     ⊎-elim
     (λ w.
-       let p : m .0 ≡ i = ap (λ (t : Arrow). t .0) w in
-       let q : m .1 ≡ y = ap (λ (t : Arrow). t .1) w in
-       let s : m .2 ≡ j = ap (λ (t : Arrow). t .2) w in
-       (p, List·Memᴰ·head q, (u, ap st q ∙ h, ap (getElem? es) s ∙ l)))
+    let p : m .0 ≡ i = ap (λ (t : Arrow). t .0) w in
+    let q : m .1 ≡ y = ap (λ (t : Arrow). t .1) w in
+    let s : m .2 ≡ j = ap (λ (t : Arrow). t .2) w in
+    (p, List·Memᴰ·head q, (u, ap st q ∙ h, ap (getElem? es) s ∙ l)))
     (λ n. let (a, b, c) = row-only r m n in (a, List·Memᴰ·tail b, c))
     (List·Memᴰ·cases-cons k)
 
@@ -227,4 +227,5 @@ module _ {A : Type 0} {step : A → ℕ → Option A} {symbols : List ℕ} {star
         has = λ i x a t s m g. (let (j, w, z) = rows-has (n .rows) i s m g in let q : 0 + i ≡ i = omega arith in (j, subst (λ y. List·Memᴰ (y, x, j) ms) q w, z));
         only = λ m k. (let w = rows-only (n .rows) m k in record { from = w .entry; to = w .to; from-at = ap (getElem? es) (let q = w .number in let r : m .0 ≡ w .place = omega arith in r) ∙ w .at; symbol = w .symbol; steps = w .steps; to-at = w .to-at });
         rising = rows-rising o (n .rows);
-        unique = λ es′ ms′ m. numbered-unique n m }
+        unique = λ es′ ms′ m. numbered-unique n m;
+      }

@@ -16,6 +16,7 @@ use Rattle.finding.specs.declared.moves.Count.{Count}
 use Rattle.finding.specs.Spaces.{Answered}
 use Rattle.finding.proofs.Functional.{whole-or-refused, refused-same}
 use Rattle.finding.proofs.Lawful.{whole-numbered}
+use Rattle.finding.proofs.Laws.{numbered-laws, upto-ascending}
 use Rattle.finding.proofs.Visiting.{joins}
 
 pub goes-on : {A : Type 0} {v w : Bounded A} {p q r : Place A} → Turns w p q → v ≡ w → Turns v q r → Turns w p r
@@ -47,7 +48,9 @@ module _ {E A N : Type 0} (f : E → A) (v : N → ℕ) (rows : List E) (n : ℕ
 
 module _ {E A N : Type 0} {b : Bounded A} {start : A} (f : E → A) (v : N → ℕ) (rows : List E) (moves : List (Move N)) where
   pub whole-answers : (c : Count) → Whole b start (map f (take (c .entries) rows)) (map (arrow v) (take (c .moves) moves)) → Answered b start f v rows moves (Ok c)
-  whole-answers c w = record { found = w; numbered = whole-numbered start w; only = λ stop r. whole-or-refused w r }
+  whole-answers c w =
+      let n = whole-numbered start w in
+      record { found = w; numbered = n; laws = numbered-laws n (upto-ascending (b .sought .symbols)); only = λ stop r. whole-or-refused w r }
 
   pub refused-answers : {s : Stop} → Refused b start s → Answered b start f v rows moves (Err s)
-  refused-answers r = record { found = r; numbered = λ es ms w. whole-or-refused w r; only = λ stop q. refused-same q r }
+  refused-answers r = record { found = r; numbered = λ es ms w. whole-or-refused w r; laws = tt; only = λ stop q. refused-same q r }

@@ -93,9 +93,11 @@ module _ {E A N : Type 0} (s : Search A) (f f′ : E → A) (v : N → ℕ) (rea
           record {
             held = record { entries-fit = in-rows; moves-fit = simp length-set (omega arith); is-ready = h .2 to st };
             more = omega arith;
-            turn = moved-old to q st }
+            turn = moved-old to q st;
+          }
       moved (f-new lacks free) q =
           record {
             held = record { entries-fit = simp length-set (omega arith); moves-fit = simp length-set (omega arith); is-ready = subst ready (sym (take-more-set rows n a free)) (h .3 lacks .2) };
             more = omega arith;
-            turn = moved-new q lacks free }
+            turn = moved-new q lacks free;
+          }

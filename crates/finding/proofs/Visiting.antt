@@ -20,14 +20,14 @@ pub same-bounds : {S A : Type 0} (f : S → Search A) {s s′ : S} {a a′ b b�
 same-bounds f {s} {s′} {a} {a′} {b} {b′} p q r =
     ap (λ y. within (f y) a b) p ∙ ap (λ y. within (f s′) y b) q ∙ ap (λ y. within (f s′) a′ y) r
 
-passes-by : {A : Type 0} (w : Bounded A) (es : List A) (ms : List Arrow) (i : ℕ) (a : A) → StandsAt es i a → (x k : ℕ) → x + k ≤ w .search .symbols → Rests (w .search) a x (x + k) → Turns w (place es ms i x) (place es ms i (x + k))
+passes-by : {A : Type 0} (w : Bounded A) (es : List A) (ms : List Arrow) (i : ℕ) (a : A) → StandsAt es i a → (x k : ℕ) → x + k ≤ w .sought .symbols → Rests (w .sought) a x (x + k) → Turns w (place es ms i x) (place es ms i (x + k))
 passes-by w es ms i a s x zero h rests = subst (λ y. Turns w (place es ms i x) (place es ms i y)) (let e : x ≡ x + 0 = omega arith in e) stay
 passes-by w es ms i a s x (suc k) h rests =
     let before = passes-by w es ms i a s x k (omega arith) (λ y l u. rests y l (omega arith)) in
     let t : Turn w (place es ms i (x + k)) (place es ms i ((x + k) + 1)) = pass a s (omega arith) (rests (x + k) (omega arith) (omega arith)) in
     subst (λ y. Turns w (place es ms i x) (place es ms i y)) (let e : (x + k) + 1 ≡ x + suc k = omega arith in e) (more before t)
 
-passes : {A : Type 0} (w : Bounded A) (es : List A) (ms : List Arrow) (i : ℕ) (a : A) → StandsAt es i a → (x y : ℕ) → x ≤ y → y ≤ w .search .symbols → Rests (w .search) a x y → Turns w (place es ms i x) (place es ms i y)
+passes : {A : Type 0} (w : Bounded A) (es : List A) (ms : List Arrow) (i : ℕ) (a : A) → StandsAt es i a → (x y : ℕ) → x ≤ y → y ≤ w .sought .symbols → Rests (w .sought) a x y → Turns w (place es ms i x) (place es ms i y)
 passes w es ms i a s x y l h rests =
     let e : x + (y - x) ≡ y = omega arith in
     subst (λ z. Turns w (place es ms i x) (place es ms i z)) e (passes-by w es ms i a s x (y - x) (omega arith) (λ z b u. rests z b (omega arith)))

@@ -23,12 +23,12 @@ pub record Search (A : Type 0) : Type 1 where
 
 -- and for how many things and moves there is room
 pub record Bounded (A : Type 0) : Type 1 where
-  pub search : Search A
+  pub sought : Search A
   pub most : ℕ
   pub most-moves : ℕ
 
 abbrev pub within : {A : Type 0} → Search A → ℕ → ℕ → Bounded A
-within s m n = record { search = s; most = m; most-moves = n }
+within s m n = record { sought = s; most = m; most-moves = n }
 
 -- where a search stands: what it found, the entry whose moves are taken, and the symbol to look at
 pub record Place (A : Type 0) : Type 0 where
@@ -48,18 +48,18 @@ stands thing value rows n moves m i x = place (map thing (take n rows)) (map (ar
 pub record Leads {A : Type 0} (b : Bounded A) (p : Place A) (t : A) : Type 0 where
   pub at : A
   pub stands : StandsAt (p .entries) (p .entry) at
-  pub below : p .symbol < b .search .symbols
-  pub goes : b .search .step at (p .symbol) ≡ some t
+  pub below : p .symbol < b .sought .symbols
+  pub goes : b .sought .step at (p .symbol) ≡ some t
 
 -- one turn of a search: no move on the symbol at hand; a move to what was found before; a move to what was not; or the next entry
 pub data Turn {A : Type 0} (b : Bounded A) (p : Place A) : Place A → Type 0 where
-  pass : (a : A) → StandsAt (p .entries) (p .entry) a → p .symbol < b .search .symbols → b .search .step a (p .symbol) ≡ none
-    → Turn b p (place (p .entries) (p .moves) (p .entry) (p .symbol + 1))
+  pass : (a : A) → StandsAt (p .entries) (p .entry) a → p .symbol < b .sought .symbols → b .sought .step a (p .symbol) ≡ none
+      → Turn b p (place (p .entries) (p .moves) (p .entry) (p .symbol + 1))
   old : (t : A) (j : ℕ) → Leads b p t → StandsAt (p .entries) j t → length (p .moves) < b .most-moves
-    → Turn b p (place (p .entries) (p .moves ++ ((p .entry, p .symbol, j) ∷ [])) (p .entry) (p .symbol + 1))
-  new : (t : A) → Leads b p t → Lacks (p .entries) t → b .search .room (p .entries) t → length (p .entries) < b .most → length (p .moves) < b .most-moves
-    → Turn b p (place (p .entries ++ (t ∷ [])) (p .moves ++ ((p .entry, p .symbol, length (p .entries)) ∷ [])) (p .entry) (p .symbol + 1))
-  next : p .entry < length (p .entries) → p .symbol ≡ b .search .symbols → Turn b p (place (p .entries) (p .moves) (p .entry + 1) 0)
+      → Turn b p (place (p .entries) (p .moves ++ ((p .entry, p .symbol, j) ∷ [])) (p .entry) (p .symbol + 1))
+  new : (t : A) → Leads b p t → Lacks (p .entries) t → b .sought .room (p .entries) t → length (p .entries) < b .most → length (p .moves) < b .most-moves
+      → Turn b p (place (p .entries ++ (t ∷ [])) (p .moves ++ ((p .entry, p .symbol, length (p .entries)) ∷ [])) (p .entry) (p .symbol + 1))
+  next : p .entry < length (p .entries) → p .symbol ≡ b .sought .symbols → Turn b p (place (p .entries) (p .moves) (p .entry + 1) 0)
 
 pub data Turns {A : Type 0} (b : Bounded A) (p : Place A) : Place A → Type 0 where
   stay : Turns b p p
@@ -67,12 +67,12 @@ pub data Turns {A : Type 0} (b : Bounded A) (p : Place A) : Place A → Type 0 w
 
 -- what stops a search where it stands; the causes of one move in their order
 pub data Stopped {A : Type 0} (b : Bounded A) (p : Place A) : Stop → Type 0 where
-  no-room : (t : A) → Leads b p t → Lacks (p .entries) t → (b .search .room (p .entries) t → ⊥) → Stopped b p (Room (p .entry))
-  no-entry : (t : A) → Leads b p t → Lacks (p .entries) t → b .search .room (p .entries) t → b .most ≤ length (p .entries)
-    → Stopped b p (Entry (length (p .entries)))
+  no-room : (t : A) → Leads b p t → Lacks (p .entries) t → (b .sought .room (p .entries) t → ⊥) → Stopped b p (Room (p .entry))
+  no-entry : (t : A) → Leads b p t → Lacks (p .entries) t → b .sought .room (p .entries) t → b .most ≤ length (p .entries)
+      → Stopped b p (Entry (length (p .entries)))
   no-move : (t : A) → Leads b p t
-    → ((j : ℕ) × StandsAt (p .entries) j t) ⊎ (Lacks (p .entries) t × b .search .room (p .entries) t × (length (p .entries) < b .most))
-    → b .most-moves ≤ length (p .moves) → Stopped b p (Arrow (p .entry) (length (p .moves)))
+      → ((j : ℕ) × StandsAt (p .entries) j t) ⊎ (Lacks (p .entries) t × b .sought .room (p .entries) t × (length (p .entries) < b .most))
+      → b .most-moves ≤ length (p .moves) → Stopped b p (Arrow (p .entry) (length (p .moves)))
 
 -- turns lead from p to where this stops the search
 abbrev pub TurnedTo : {A : Type 0} → Bounded A → Place A → Stop → Type 0

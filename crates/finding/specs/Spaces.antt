@@ -13,6 +13,7 @@ use Rattle.finding.specs.declared.moves.Count.{Count}
 use Rattle.finding.specs.declared.moves.Move.{Move}
 use Rattle.finding.specs.declared.moves.Stop.{Stop}
 use Rattle.finding.specs.Finding.{Search, Bounded, arrow, Whole, Refused}
+use Rattle.finding.specs.Laws.{Laws}
 use Rattle.finding.specs.Numbered.{Arrow, Numbered, upto}
 
 -- the thing a moves on x
@@ -46,6 +47,9 @@ pub record Held {E N : Type 0} (ready : List E → Type 0) (rows : List E) (move
 pub record Answered {E A N : Type 0} (b : Bounded A) (start : A) (thing : E → A) (value : N → ℕ) (rows : List E) (moves : List (Move N)) (r : Result Count Stop) : Type 0 where
   pub found : Cases r (λ c. Whole b start (map thing (take (c .entries) rows)) (map (arrow value) (take (c .moves) moves))) (λ stop. Refused b start stop)
   pub numbered : Cases r
-    (λ c. Numbered (b .search .step) (upto (b .search .symbols)) start (map thing (take (c .entries) rows)) (map (arrow value) (take (c .moves) moves)))
-    (λ _. (es : List A) (ms : List Arrow) → Whole b start es ms → ⊥)
+      (λ c. Numbered (b .sought .step) (upto (b .sought .symbols)) start (map thing (take (c .entries) rows)) (map (arrow value) (take (c .moves) moves)))
+      (λ _. (es : List A) (ms : List Arrow) → Whole b start es ms → ⊥)
+  pub laws : Cases r
+      (λ c. Laws (b .sought .step) (upto (b .sought .symbols)) start (map thing (take (c .entries) rows)) (map (arrow value) (take (c .moves) moves)))
+      (λ _. Unit {0})
   pub only : Cases r (λ _. (stop : Stop) → Refused b start stop → ⊥) (λ s. (stop : Stop) → Refused b start stop → stop ≡ s)

@@ -20,7 +20,7 @@ pub trait Space {
     ghost source: { Self → Source };
 
     /// where the things lead, and which new thing has a place
-    ghost search: { Source → Search Thing };
+    ghost sought: { Source → Search Thing };
 
     ghost thing: { Self → Self·Entry → Thing };
 
@@ -30,12 +30,12 @@ pub trait Space {
     /// The least symbol that is `from` or more on which `e` moves.
     fn next_symbol(&self, e: Self::Entry, from: u16) -> Option<u16>
         requires { ⌜ ((es : List Self·Entry) × (k : ℕ) × ready (now self) es × StandsAt es k e) ⌝ }
-        ensures { λ r. ⌜ LeastMove (search (source (now (self .entry)))) (thing (now (self .entry)) e) from r ⌝ };
+        ensures { λ r. ⌜ LeastMove (sought (source (now (self .entry)))) (thing (now (self .entry)) e) from r ⌝ };
 
     /// The entry that `e` leads to on the symbol `x`, or none where the space has no place for it.
     fn reach(&mut self, e: Self::Entry, x: u16) -> Option<Self::Entry>
         requires { ⌜ ((es : List Self·Entry) × (k : ℕ) × ready (now self) es × StandsAt es k e) ⌝ }
-        requires { ⌜ Moves (search (source (now self))) (thing (now self) e) x ⌝ }
+        requires { ⌜ Moves (sought (source (now self))) (thing (now self) e) x ⌝ }
         ensures source { λ _. ⌜ source (now (self .exit)) ≡ source (now (self .entry)) ⌝ }
-        ensures answer { λ r. ⌜ ((es : List Self·Entry) (k : ℕ) (t : Thing) → ready (now (self .entry)) es → StandsAt es k e → search (source (now (self .entry))) .step (thing (now (self .entry)) e) x ≡ some t → Reached (thing (now (self .entry))) (thing (now (self .exit))) (ready (now (self .exit))) (search (source (now (self .entry))) .room) es t r) ⌝ };
+        ensures answer { λ r. ⌜ ((es : List Self·Entry) (k : ℕ) (t : Thing) → ready (now (self .entry)) es → StandsAt es k e → sought (source (now (self .entry))) .step (thing (now (self .entry)) e) x ≡ some t → Reached (thing (now (self .entry))) (thing (now (self .exit))) (ready (now (self .exit))) (sought (source (now (self .entry))) .room) es t r) ⌝ };
 }

@@ -28,20 +28,27 @@ fn place<E: PartialEq<E> + Copy>(rows: &mut [E], len: usize, e: E) -> (Option<us
 }
 
 /// Takes the move of entry `i` on the symbol `x`.
-fn take_move<S: Space, N: Number>(space: &mut S, rows: &mut [S::Entry], moves: &mut [Move<N>], found: Count, i: usize, x: u16) -> Result<Count, Stop>
+fn take_move<S: Space, N: Number>(
+    space: &mut S,
+    rows: &mut [S::Entry],
+    moves: &mut [Move<N>],
+    found: Count,
+    i: usize,
+    x: u16,
+) -> Result<Count, Stop>
     requires exact { ⌜ Exact (Entry·PartialEq .equals) ⌝ }
     requires held { ⌜ Held (S·Space .ready (now space)) (now rows) (now moves) found ⌝ }
     requires short { ⌜ length (now rows) ≤ 65536 ⌝ }
     requires here { ⌜ i < found .entries ⌝ }
-    requires moves { ⌜ ((a : S·Entry) → StandsAt (take (found .entries) (now rows)) i a → Moves (S·Space .search (S·Space .source (now space))) (S·Space .thing (now space) a) x) ⌝ }
+    requires moves { ⌜ ((a : S·Entry) → StandsAt (take (found .entries) (now rows)) i a → Moves (S·Space .sought (S·Space .source (now space))) (S·Space .thing (now space) a) x) ⌝ }
     ensures source { λ _. ⌜ S·Space .source (now (space .exit)) ≡ S·Space .source (now (space .entry)) ⌝ }
     ensures held { λ r. ⌜ Cases r (λ c. Held (S·Space .ready (now (space .exit))) (now (rows .exit)) (now (moves .exit)) c × (found .entries ≤ c .entries)) (λ _. Unit {0}) ⌝ }
     ensures turn { λ r. ⌜ Cases r
-            (λ c. Turn (within (S·Space .search (S·Space .source (now (space .entry)))) (length (now (rows .entry))) (length (now (moves .entry))))
-                (stands (S·Space .thing (now (space .entry))) (N·Number .value) (now (rows .entry)) (found .entries) (now (moves .entry)) (found .moves) i x)
-                (stands (S·Space .thing (now (space .exit))) (N·Number .value) (now (rows .exit)) (c .entries) (now (moves .exit)) (c .moves) i (x + 1)))
-            (λ s. Stopped (within (S·Space .search (S·Space .source (now (space .entry)))) (length (now (rows .entry))) (length (now (moves .entry))))
-                (stands (S·Space .thing (now (space .entry))) (N·Number .value) (now (rows .entry)) (found .entries) (now (moves .entry)) (found .moves) i x) s) ⌝ }
+        (λ c. Turn (within (S·Space .sought (S·Space .source (now (space .entry)))) (length (now (rows .entry))) (length (now (moves .entry))))
+        (stands (S·Space .thing (now (space .entry))) (N·Number .value) (now (rows .entry)) (found .entries) (now (moves .entry)) (found .moves) i x)
+        (stands (S·Space .thing (now (space .exit))) (N·Number .value) (now (rows .exit)) (c .entries) (now (moves .exit)) (c .moves) i (x + 1)))
+        (λ s. Stopped (within (S·Space .sought (S·Space .source (now (space .entry)))) (length (now (rows .entry))) (length (now (moves .entry))))
+        (stands (S·Space .thing (now (space .entry))) (N·Number .value) (now (rows .entry)) (found .entries) (now (moves .entry)) (found .moves) i x) s) ⌝ }
 {
     let e = rows[i];
     let Some(t) = space.reach(e, x) else {
@@ -54,12 +61,25 @@ fn take_move<S: Space, N: Number>(space: &mut S, rows: &mut [S::Entry], moves: &
     if found.moves == moves.len() {
         return Err(Stop::Arrow(i, found.moves));
     }
-    moves[found.moves] = Move { from: N::from_index(i), symbol: x, to: N::from_index(to) };
-    Ok(Count { entries, moves: found.moves + 1 })
+    moves[found.moves] = Move {
+        from: N::from_index(i),
+        symbol: x,
+        to: N::from_index(to),
+    };
+    Ok(Count {
+        entries,
+        moves: found.moves + 1,
+    })
 }
 
 /// Takes the moves of entry `i`, symbols upward.
-fn visit<S: Space, N: Number>(space: &mut S, rows: &mut [S::Entry], moves: &mut [Move<N>], mut found: Count, i: usize) -> Result<Count, Stop>
+fn visit<S: Space, N: Number>(
+    space: &mut S,
+    rows: &mut [S::Entry],
+    moves: &mut [Move<N>],
+    mut found: Count,
+    i: usize,
+) -> Result<Count, Stop>
     requires exact { ⌜ Exact (Entry·PartialEq .equals) ⌝ }
     requires held { ⌜ Held (S·Space .ready (now space)) (now rows) (now moves) found ⌝ }
     requires short { ⌜ length (now rows) ≤ 65536 ⌝ }
@@ -67,11 +87,11 @@ fn visit<S: Space, N: Number>(space: &mut S, rows: &mut [S::Entry], moves: &mut 
     ensures source { λ _. ⌜ S·Space .source (now (space .exit)) ≡ S·Space .source (now (space .entry)) ⌝ }
     ensures held { λ r. ⌜ Cases r (λ c. Held (S·Space .ready (now (space .exit))) (now (rows .exit)) (now (moves .exit)) c × (found .entries ≤ c .entries)) (λ _. Unit {0}) ⌝ }
     ensures turns { λ r. ⌜ Cases r
-            (λ c. Turns (within (S·Space .search (S·Space .source (now (space .entry)))) (length (now (rows .entry))) (length (now (moves .entry))))
-                (stands (S·Space .thing (now (space .entry))) (N·Number .value) (now (rows .entry)) (found .entries) (now (moves .entry)) (found .moves) i 0)
-                (stands (S·Space .thing (now (space .exit))) (N·Number .value) (now (rows .exit)) (c .entries) (now (moves .exit)) (c .moves) (i + 1) 0))
-            (λ s. TurnedTo (within (S·Space .search (S·Space .source (now (space .entry)))) (length (now (rows .entry))) (length (now (moves .entry))))
-                (stands (S·Space .thing (now (space .entry))) (N·Number .value) (now (rows .entry)) (found .entries) (now (moves .entry)) (found .moves) i 0) s) ⌝ }
+        (λ c. Turns (within (S·Space .sought (S·Space .source (now (space .entry)))) (length (now (rows .entry))) (length (now (moves .entry))))
+        (stands (S·Space .thing (now (space .entry))) (N·Number .value) (now (rows .entry)) (found .entries) (now (moves .entry)) (found .moves) i 0)
+        (stands (S·Space .thing (now (space .exit))) (N·Number .value) (now (rows .exit)) (c .entries) (now (moves .exit)) (c .moves) (i + 1) 0))
+        (λ s. TurnedTo (within (S·Space .sought (S·Space .source (now (space .entry)))) (length (now (rows .entry))) (length (now (moves .entry))))
+        (stands (S·Space .thing (now (space .entry))) (N·Number .value) (now (rows .entry)) (found .entries) (now (moves .entry)) (found .moves) i 0) s) ⌝ }
 {
     let mut x = 0;
     while let Some(y) = space.next_symbol(rows[i], x) {
@@ -82,20 +102,28 @@ fn visit<S: Space, N: Number>(space: &mut S, rows: &mut [S::Entry], moves: &mut 
 }
 
 /// Numbers what is found from `start` in tables that are as long as they may be.
-fn number_all<S: Space, N: Number>(space: &mut S, start: S::Entry, rows: &mut [S::Entry], moves: &mut [Move<N>]) -> Result<Count, Stop>
+fn number_all<S: Space, N: Number>(
+    space: &mut S,
+    start: S::Entry,
+    rows: &mut [S::Entry],
+    moves: &mut [Move<N>],
+) -> Result<Count, Stop>
     requires exact { ⌜ Exact (Entry·PartialEq .equals) ⌝ }
     requires ready { ⌜ S·Space .ready (now space) (start ∷ []) ⌝ }
     requires short { ⌜ length (now rows) ≤ 65536 ⌝ }
     ensures source { λ _. ⌜ S·Space .source (now (space .exit)) ≡ S·Space .source (now (space .entry)) ⌝ }
     ensures held { λ r. ⌜ Cases r (λ c. Held (S·Space .ready (now (space .exit))) (now (rows .exit)) (now (moves .exit)) c) (λ _. Unit {0}) ⌝ }
-    ensures answer { λ r. ⌜ Answered (within (S·Space .search (S·Space .source (now (space .entry)))) (length (now (rows .entry))) (length (now (moves .entry))))
-            (S·Space .thing (now (space .entry)) start) (S·Space .thing (now (space .exit))) (N·Number .value) (now (rows .exit)) (now (moves .exit)) r ⌝ }
+    ensures answer { λ r. ⌜ Answered (within (S·Space .sought (S·Space .source (now (space .entry)))) (length (now (rows .entry))) (length (now (moves .entry))))
+        (S·Space .thing (now (space .entry)) start) (S·Space .thing (now (space .exit))) (N·Number .value) (now (rows .exit)) (now (moves .exit)) r ⌝ }
 {
     if rows.len() == 0 {
         return Err(Stop::Entry(0));
     }
     rows[0] = start;
-    let mut found = Count { entries: 1, moves: 0 };
+    let mut found = Count {
+        entries: 1,
+        moves: 0,
+    };
     let mut i = 0;
     while i < found.entries {
         found = visit(space, rows, moves, found, i)?;
@@ -105,14 +133,20 @@ fn number_all<S: Space, N: Number>(space: &mut S, start: S::Entry, rows: &mut [S
 }
 
 /// Numbers what is found from `start`, taking entries by number and symbols upward, within the limits; a shorter table is the limit instead.
-pub fn number<S: Space, N: Number>(space: &mut S, start: S::Entry, rows: &mut [S::Entry], moves: &mut [Move<N>], limits: Limits) -> Result<Count, Stop>
+pub fn number<S: Space, N: Number>(
+    space: &mut S,
+    start: S::Entry,
+    rows: &mut [S::Entry],
+    moves: &mut [Move<N>],
+    limits: Limits,
+) -> Result<Count, Stop>
     requires exact { ⌜ Exact (Entry·PartialEq .equals) ⌝ }
     requires ready { ⌜ S·Space .ready (now space) (start ∷ []) ⌝ }
     requires short { ⌜ limits .entries ≤ 65536 ⌝ }
     ensures source { λ _. ⌜ S·Space .source (now (space .exit)) ≡ S·Space .source (now (space .entry)) ⌝ }
     ensures held { λ r. ⌜ Cases r (λ c. Held (S·Space .ready (now (space .exit))) (now (rows .exit)) (now (moves .exit)) c) (λ _. Unit {0}) ⌝ }
-    ensures answer { λ r. ⌜ Answered (within (S·Space .search (S·Space .source (now (space .entry)))) (min (length (now (rows .entry))) (limits .entries)) (min (length (now (moves .entry))) (limits .moves)))
-            (S·Space .thing (now (space .entry)) start) (S·Space .thing (now (space .exit))) (N·Number .value) (now (rows .exit)) (now (moves .exit)) r ⌝ }
+    ensures answer { λ r. ⌜ Answered (within (S·Space .sought (S·Space .source (now (space .entry)))) (min (length (now (rows .entry))) (limits .entries)) (min (length (now (moves .entry))) (limits .moves)))
+        (S·Space .thing (now (space .entry)) start) (S·Space .thing (now (space .exit))) (N·Number .value) (now (rows .exit)) (now (moves .exit)) r ⌝ }
 {
     let most = rows.len().min(limits.entries);
     let most_moves = moves.len().min(limits.moves);

@@ -5,7 +5,7 @@ use lib.ListN.{length}
 use Rattle.table.proofs.Lists.{stands-read}
 use Rattle.table.proofs.Found.{number-below, found-as}
 use Rattle.finding.proofs.Taking.{room-stops, entry-stops, move-stops, moved}
-use Rattle.finding.proofs.search.take_move.Needs as need
+use Rattle.finding.proofs.order.take_move.Needs as need
 
 pub reach-requires : need.reach-requires
 reach-requires g c κs =
@@ -23,7 +23,8 @@ returns-in-rest g c =
     record {
       source = c .reach .ensures .source;
       held = tt;
-      turn = room-stops (g .S·Space .search (g .S·Space .source (a .space .now))) (g .S·Space .thing (a .space .now)) (g .S·Space .thing (c .reach .last .self)) (g .N·Number .value) (g .S·Space .ready (c .reach .last .self)) (a .rows .now) (a .found .entries) (a .moves .now) (a .found .moves) (a .i) (a .x) (c .index-rows-i .result) (v .1 .0) (h .entries-fit) (h .moves-fit) s (v .0) (v .1 .1) w }
+      turn = room-stops (g .S·Space .sought (g .S·Space .source (a .space .now))) (g .S·Space .thing (a .space .now)) (g .S·Space .thing (c .reach .last .self)) (g .N·Number .value) (g .S·Space .ready (c .reach .last .self)) (a .rows .now) (a .found .entries) (a .moves .now) (a .found .moves) (a .i) (a .x) (c .index-rows-i .result) (v .1 .0) (h .entries-fit) (h .moves-fit) s (v .0) (v .1 .1) w;
+    }
 
 pub returns-in-rest-number : need.returns-in-rest-number
 returns-in-rest-number g c =
@@ -35,7 +36,8 @@ returns-in-rest-number g c =
     record {
       source = c .reach .ensures .source;
       held = tt;
-      turn = entry-stops (g .S·Space .search (g .S·Space .source (a .space .now))) (g .S·Space .thing (a .space .now)) (g .S·Space .thing (c .reach .last .self)) (g .N·Number .value) (g .S·Space .ready (c .reach .last .self)) (a .rows .now) (a .found .entries) (a .moves .now) (a .found .moves) (a .i) (a .x) (c .index-rows-i .result) (v .1 .0) (h .entries-fit) (h .moves-fit) s (v .0) (v .1 .1) w (found-as (c .in-rest-number .is) (c .place-number .ensures)) }
+      turn = entry-stops (g .S·Space .sought (g .S·Space .source (a .space .now))) (g .S·Space .thing (a .space .now)) (g .S·Space .thing (c .reach .last .self)) (g .N·Number .value) (g .S·Space .ready (c .reach .last .self)) (a .rows .now) (a .found .entries) (a .moves .now) (a .found .moves) (a .i) (a .x) (c .index-rows-i .result) (v .1 .0) (h .entries-fit) (h .moves-fit) s (v .0) (v .1 .1) w (found-as (c .in-rest-number .is) (c .place-number .ensures));
+    }
 
 pub returns-then-found-moves : need.returns-then-found-moves
 returns-then-found-moves g c =
@@ -47,7 +49,8 @@ returns-then-found-moves g c =
     record {
       source = c .reach .ensures .source;
       held = tt;
-      turn = move-stops (g .S·Space .search (g .S·Space .source (a .space .now))) (g .S·Space .thing (a .space .now)) (g .S·Space .thing (c .reach .last .self)) (g .N·Number .value) (g .S·Space .ready (c .reach .last .self)) (a .rows .now) (a .found .entries) (a .moves .now) (a .found .moves) (a .i) (a .x) (c .index-rows-i .result) (v .1 .0) (h .entries-fit) (h .moves-fit) s (v .0) (v .1 .1) w (found-as (c .in-Some-number .is) (c .place-number .ensures)) (omega arith) }
+      turn = move-stops (g .S·Space .sought (g .S·Space .source (a .space .now))) (g .S·Space .thing (a .space .now)) (g .S·Space .thing (c .reach .last .self)) (g .N·Number .value) (g .S·Space .ready (c .reach .last .self)) (a .rows .now) (a .found .entries) (a .moves .now) (a .found .moves) (a .i) (a .x) (c .index-rows-i .result) (v .1 .0) (h .entries-fit) (h .moves-fit) s (v .0) (v .1 .1) w (found-as (c .in-Some-number .is) (c .place-number .ensures)) (omega arith);
+    }
 
 pub from-index-requires-2 : need.from-index-requires-2
 from-index-requires-2 g c κs =
@@ -62,5 +65,5 @@ returns g c =
     let w = c .in-Some .ensures tt .answer _ _ _ (h .is-ready) s (v .1 .1) in
     let free : a .found .moves < length (a .moves .now) = omega (arith, h .moves-fit, c .if-found-moves .left) in
     let arrow-is = ap (λ (y : ℕ). (y, a .x, g .N·Number .value (c .from-index-2 .result))) (c .from-index .ensures) ∙ ap (λ (y : ℕ). (a .i, a .x, y)) (c .from-index-2 .ensures) in
-    let k = moved (g .S·Space .search (g .S·Space .source (a .space .now))) (g .S·Space .thing (a .space .now)) (g .S·Space .thing (c .reach .last .self)) (g .N·Number .value) (g .S·Space .ready (c .reach .last .self)) (a .rows .now) (a .found .entries) (a .moves .now) (a .found .moves) (a .i) (a .x) (c .index-rows-i .result) (v .1 .0) (h .entries-fit) (h .moves-fit) s (v .0) (v .1 .1) w free _ (found-as (c .in-Some-number .is) (c .place-number .ensures)) arrow-is in
+    let k = moved (g .S·Space .sought (g .S·Space .source (a .space .now))) (g .S·Space .thing (a .space .now)) (g .S·Space .thing (c .reach .last .self)) (g .N·Number .value) (g .S·Space .ready (c .reach .last .self)) (a .rows .now) (a .found .entries) (a .moves .now) (a .found .moves) (a .i) (a .x) (c .index-rows-i .result) (v .1 .0) (h .entries-fit) (h .moves-fit) s (v .0) (v .1 .1) w free _ (found-as (c .in-Some-number .is) (c .place-number .ensures)) arrow-is in
     record { source = c .reach .ensures .source; held = (k .held, k .more); turn = k .turn }

@@ -1,0 +1,19 @@
+use Prim.Native.Nat.{_-_, _≤_}
+use mathlib.Core.Path.{_≡_}
+use lib.ListN.{length}
+use Rattle.finding.specs.Finding.{within, stands, Turns}
+use Rattle.finding.specs.Spaces.{Held}
+use Rattle.finding.proofs.order.visit.Given as given
+
+abbrev pub Inv-loop-y : given.InvT-loop-y
+Inv-loop-y g l =
+    (g .S·Space .source (l .space) ≡ g .S·Space .source (l .entry .space))
+    × Held (g .S·Space .ready (l .space)) (l .rows) (l .moves) (l .found)
+    × (l .entry .found .entries ≤ l .found .entries)
+    × (l .x ≤ g .S·Space .sought (g .S·Space .source (l .space)) .symbols)
+    × Turns (within (g .S·Space .sought (g .S·Space .source (l .entry .space))) (length (l .entry .rows)) (length (l .entry .moves)))
+    (stands (g .S·Space .thing (l .entry .space)) (g .N·Number .value) (l .entry .rows) (l .entry .found .entries) (l .entry .moves) (l .entry .found .moves) (l .i) 0)
+    (stands (g .S·Space .thing (l .space)) (g .N·Number .value) (l .rows) (l .found .entries) (l .moves) (l .found .moves) (l .i) (l .x))
+
+abbrev pub μ-loop-y : given.MeasureT-loop-y
+μ-loop-y g l = 65536 - l .x
