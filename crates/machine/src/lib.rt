@@ -1,0 +1,2 @@
+//! The characteristic machine of a grammar: states are sets of items, found from the closure of the added rule.
+mod items;
