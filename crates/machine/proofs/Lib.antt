@@ -1,2 +1,4 @@
 pub mod Indexing
 pub mod IndexWalk
+pub mod Noting
+pub mod Taking

@@ -15,9 +15,10 @@ pub const NO_SYMBOL: u16 = 65535;
 
 /// For each item the symbol after its dot, and for each name a chain of the first items of its rules, which ends at 0.
 pub struct Items {
-    after: [u16; 4096],
-    head: [u16; 1024],
-    next: [u16; 4096],
+    pub words: usize,
+    pub after: [u16; 4096],
+    pub head: [u16; 1024],
+    pub next: [u16; 4096],
 }
 
 impl Items {
@@ -27,6 +28,7 @@ impl Items {
         ensures after { λ _. ⌜ take (first + (length (now (right .entry)) + 1)) (now (self .exit) .after) ≡ take first (now (self .entry) .after) ++ (now (right .entry) ++ (65535 ∷ [])) ⌝ }
         ensures next { λ _. ⌜ now (self .exit) .next ≡ set (now (self .entry) .next) first (getD (now (self .entry) .head) name 0) ⌝ }
         ensures head { λ _. ⌜ now (self .exit) .head ≡ set (now (self .entry) .head) name first ⌝ }
+        ensures words { λ _. ⌜ now (self .exit) .words ≡ now (self .entry) .words ⌝ }
     {
         let end = first + right.len();
         self.after[first..end].copy_from_slice(right);
@@ -42,6 +44,7 @@ impl Items {
         ensures after { λ r. ⌜ take (first + (r + 1)) (now (self .exit) .after) ≡ take first (now (self .entry) .after) ++ (take r (drop (at + 2) (now (table .entry))) ++ (65535 ∷ [])) ⌝ }
         ensures next { λ _. ⌜ now (self .exit) .next ≡ set (now (self .entry) .next) first (getD (now (self .entry) .head) (getD (now (table .entry)) at 0 - words) 0) ⌝ }
         ensures head { λ _. ⌜ now (self .exit) .head ≡ set (now (self .entry) .head) (getD (now (table .entry)) at 0 - words) first ⌝ }
+        ensures words { λ _. ⌜ now (self .exit) .words ≡ now (self .entry) .words ⌝ }
     {
         let length = table[at + 1] as usize;
         let name = table[at] as usize - words;
@@ -52,9 +55,10 @@ impl Items {
     /// The items of the grammar that a table holds, where its check gave `book`.
     pub fn of(table: &[u16], book: Summary) -> Items
         requires { ⌜ Checked (now table) (Ok book) ⌝ }
-        ensures { λ r. ⌜ ((g : Grammar) → Holds (now (table .entry)) g → Indexed g (r .after) (r .head) (r .next)) ⌝ }
+        ensures words { λ r. ⌜ r .words ≡ book .words ⌝ }
+        ensures indexed { λ r. ⌜ ((g : Grammar) → Holds (now (table .entry)) g → Indexed g (r .after) (r .head) (r .next)) ⌝ }
     {
-        let mut items = Items { after: [NO_SYMBOL; 4096], head: [0; 1024], next: [0; 4096] };
+        let mut items = Items { words: book.words, after: [NO_SYMBOL; 4096], head: [0; 1024], next: [0; 4096] };
         items.after[0] = book.start as u16;
         let mut at = 4;
         let mut first = 2;

@@ -1,0 +1,58 @@
+//! The closure of a set of items: each name after a dot is opened once.
+ghost use mathlib.Core.Path.{_≡_};
+ghost use mathlib.Core.List.{List};
+ghost use Prim.Native.Nat.{ℕ, _+_, _<_, _≤_};
+ghost use Rattle.book.specs.Grammar.{Grammar};
+ghost use Rattle.table.specs.Sets.{In};
+ghost use Rattle.theory.specs.Closure.{Closed};
+ghost use Rattle.machine.specs.Closing.{ItemsOf, Notes, NotedMore, Within, Grown};
+use super::items::Items;
+use table::numbers::ItemNo;
+use table::numbers::ItemNoNumber;
+use table::sets::ItemSet;
+
+/// A closure in the making: the items so far, and the names after their dots in the order in which they were noted.
+pub struct Closing {
+    pub set: ItemSet,
+    pub names: [u16; 1024],
+    pub count: usize,
+    pub seen: [bool; 1024],
+}
+
+impl Closing {
+    /// Notes the name of this index, if it is not noted yet.
+    fn note(&mut self, name: usize)
+        requires { ⌜ (name < 1024) × Notes (now self) ⌝ }
+        ensures noted { λ _. ⌜ NotedMore (now (self .entry)) (now (self .exit)) name ⌝ }
+        ensures set { λ _. ⌜ now (self .exit) .set ≡ now (self .entry) .set ⌝ }
+    {
+        if self.seen[name] {
+            return;
+        }
+        let at = self.count;
+        self.seen[name] = true;
+        self.names[at] = name as u16;
+        self.count = at + 1;
+    }
+}
+
+impl Items {
+    /// Puts an item in, and notes the name after its dot.
+    fn take_item(&self, at: &mut Closing, item: ItemNo)
+        requires { ⌜ (item .0 < 4096) × (now self .words ≤ 1024) × Notes (now at) ⌝ }
+        ensures grown { λ _. ⌜ Grown (now (at .entry)) (now (at .exit)) ⌝ }
+        ensures here { λ _. ⌜ In (now (at .exit) .set .words) (item .0) ⌝ }
+        ensures within { λ _. ⌜ ((g : Grammar) (K : List ℕ) → ItemsOf g (now (self .entry)) → Closed g K (item .0) → Within g K (now (at .entry)) → Within g K (now (at .exit))) ⌝ }
+    {
+        at.set.insert(item);
+        let symbol = self.after[item.0 as usize] as usize;
+        if symbol < self.words {
+            return;
+        }
+        let name = symbol - self.words;
+        if name >= 1024 {
+            return;
+        }
+        at.note(name);
+    }
+}
