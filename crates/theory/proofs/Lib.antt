@@ -3,6 +3,7 @@ pub mod Saturated
 pub mod Items
 pub mod Closure
 pub mod Numbering
+pub mod Searching
 pub mod Graphs
 pub mod Machine
 pub mod Steps

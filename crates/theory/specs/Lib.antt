@@ -7,3 +7,4 @@ pub mod Unfolding
 pub mod Flattening
 pub mod Sentences
 pub mod Laws
+pub mod Executable
