@@ -18,4 +18,6 @@ pub mod Finer
 pub mod Flattening
 pub mod Arcs
 pub mod Policies
+pub mod Building
+pub mod Built
 pub mod Theorems

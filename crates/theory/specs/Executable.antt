@@ -63,3 +63,75 @@ module _ {A : Type 0} (equal : A → A → Bool) (step : A → ℕ → Option A)
   -- all that is found from a start
   abbrev pub numbered : ℕ → A → Option (Search A)
   numbered rounds start = visit rounds 0 (start ∷ [])
+
+-- ── the flattened acceptor ──
+
+abbrev pub same-class : Class → Class → Bool
+same-class (states a) (states b) = same a b
+same-class (states a) (pair c d) = false
+same-class (pair a b) (states c) = false
+same-class (pair a b) (pair c d) = and (same-class a c) (same-class b d)
+
+abbrev pub same-node : Node → Node → Bool
+same-node a b = and (eqb (a .state) (b .state)) (same-class (a .class) (b .class))
+
+abbrev pub same-pair : ℕ × ℕ → ℕ × ℕ → Bool
+same-pair a b = and (eqb (a .0) (b .0)) (eqb (a .1) (b .1))
+
+-- where moves lead over a list of symbols
+abbrev pub walk : List Arrow → ℕ → List ℕ → Option ℕ
+walk moves q [] = some q
+walk moves q (x ∷ xs) = elim (along moves q x) [ none ↦ none | some p ↦ walk moves p xs ]
+
+-- the jump that a node gives rise to by a rule: from where it leads over the right side to where it moves over the left
+abbrev pub leap : List Arrow → ℕ → Rule → List (ℕ × ℕ)
+leap moves q r = elim (walk moves q (r .right)) [ none ↦ [] | some p ↦ elim (along moves q (r .left)) [ none ↦ [] | some to ↦ (p, to) ∷ [] ] ]
+
+-- all jumps as the nodes below n give rise to them
+abbrev pub leaps : List Arrow → List Rule → ℕ → List (ℕ × ℕ)
+leaps moves rules n = joined (λ q. joined (leap moves q) rules) (upto n)
+
+-- all pairs of some numbers, rising
+abbrev pub pairs : List ℕ → List ℕ → List (ℕ × ℕ)
+pairs ps ts = joined (λ p. map (λ t. (p, t)) ts) ps
+
+-- the jumps, rising
+abbrev pub jumps-among : List (ℕ × ℕ) → ℕ → List (ℕ × ℕ)
+jumps-among given n = keep (λ j. any (same-pair j) given) (pairs (upto n) (upto n))
+
+-- all that compile works out
+pub record Built : Type 0 where
+  pub sets : List (List ℕ)
+  pub moves : List Arrow
+  pub nodes : List Node
+  pub unfolded-moves : List Arrow
+  pub acceptor : Acceptor
+
+abbrev pub finish : Grammar → Search (List ℕ) → Search Node → Option Built
+finish g s t =
+    elim (along (t .moves) 0 (g .start)) [
+      | none ↦ none
+      | some final ↦
+          some (record {
+            sets = s .entries;
+            moves = s .moves;
+            nodes = t .entries;
+            unfolded-moves = t .moves;
+            acceptor =
+                record {
+                  words = g .words;
+                  nodes = length (t .entries);
+                  final = final;
+                  arcs = word-moves (g .words) (t .moves);
+                  jumps = jumps-among (leaps (t .moves) (g .rules) (length (t .entries))) (length (t .entries));
+                };
+          })
+    ]
+
+abbrev pub unfold-from : Grammar → Meaning → ℕ → Search (List ℕ) → Option Built
+unfold-from g m rounds s =
+    elim (numbered same-node (onward m (s .moves)) (upto (symbols g)) rounds (node 0 (m .first))) [ none ↦ none | some t ↦ finish g s t ]
+
+-- the machine, its unfolding and the acceptor; nothing where the rounds do not suffice
+abbrev pub build : Grammar → Meaning → ℕ → Option Built
+build g m rounds = elim (numbered same (goto g) (upto (symbols g)) rounds (initial g)) [ none ↦ none | some s ↦ unfold-from g m rounds s ]
