@@ -20,4 +20,5 @@ pub mod Arcs
 pub mod Policies
 pub mod Building
 pub mod Built
+pub mod Subsets
 pub mod Theorems

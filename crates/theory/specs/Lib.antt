@@ -8,3 +8,4 @@ pub mod Flattening
 pub mod Sentences
 pub mod Laws
 pub mod Executable
+pub mod Subsets
