@@ -43,7 +43,7 @@ tells-by equal f h = record { yes-if = f; no-if = λ x y e q. both-ways (equal x
 pub same-tells : Tells same
 same-tells = tells-by same same-equal same-refl
 
-class-equal : (a b : Class) → same-class a b ≡ true → a ≡ b
+pub class-equal : (a b : Class) → same-class a b ≡ true → a ≡ b
 class-equal (states a) (states b) e = ap states (same-equal a b e)
 class-equal (states a) (pair c d) e = let z : _≡_ {A = ℕ} 0 1 = cc in absurd (omega arith)
 class-equal (pair a b) (states c) e = let z : _≡_ {A = ℕ} 0 1 = cc in absurd (omega arith)

@@ -21,4 +21,6 @@ pub mod Policies
 pub mod Building
 pub mod Built
 pub mod Subsets
+pub mod Ranges
 pub mod Theorems
+pub mod Worked

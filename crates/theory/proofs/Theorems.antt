@@ -16,6 +16,8 @@ use Rattle.theory.specs.Laws.{Laws, AllLaws, Foundations}
 use Rattle.theory.proofs.Items.{items-length, dotted-only, dotted-at, dotted-next}
 use Rattle.theory.proofs.Closure.{closure-members, closure-increasing, goto-carried, goto-none, carried-members}
 use Rattle.theory.proofs.Policies.{policy-laws}
+use Rattle.theory.proofs.Ranges.{in-range}
+use Rattle.theory.proofs.Subsets.{subset-laws}
 use Rattle.theory.proofs.Numbering.{numbered-unique}
 use Rattle.theory.proofs.States.{machine-unique, machine-laws}
 use Rattle.theory.proofs.Unfolding.{graph-lawful, final-node-one, unfolding-laws}
@@ -83,7 +85,7 @@ module _ (g : Grammar) (u : Sound g) where
       (subst (λ (a : List Arrow). FlattenedFrom g (h .states) (h .nodes) a f) vs (subst (λ (a : List Node). FlattenedFrom g (h .states) a (o .arrows) f) ns (o .flattens)))
 
 pub all-laws : AllLaws
-all-laws g u = record { nothing-lost = nothing-lost g u; exact = exact g u; finer = finer g u; one = one-acceptor g u }
+all-laws g u = record { nothing-lost = nothing-lost g u; exact = exact g u; finer = finer g u; in-range = λ m f h. in-range g m h; one = one-acceptor g u }
 
 pub foundations : Foundations
 foundations =
@@ -100,4 +102,5 @@ foundations =
       unfolding-laws = λ g u states moves mt m nodes arrows un. unfolding-laws g u mt m un;
       jumps = λ g u states moves mt m nodes arrows un. jump-laws g u mt m un;
       policies = policy-laws;
+      subsets = subset-laws;
     }

@@ -9,12 +9,13 @@ use lib.ListN.{length, getElem?}
 use Rattle.std.specs.shelf.Lists.{joined}
 use Rattle.book.specs.Grammar.{Rule, Grammar, symbols}
 use Rattle.finding.specs.Numbered.{Arrow, upto}
-use Rattle.theory.specs.Lists.{and, keep, any, same}
+use Rattle.theory.specs.Lists.{and, keep, any, every, same}
 use Rattle.theory.specs.Closure.{goto, initial}
 use Rattle.theory.specs.Policies.{Class, Meaning}
 use Rattle.theory.specs.Policies.Class.{states, pair}
 use Rattle.theory.specs.Unfolding.{along, Node, node, onward}
 use Rattle.theory.specs.Flattening.{Acceptor, word-moves}
+use Rattle.theory.specs.Subsets.{first-set, subset-step, Determined}
 
 -- ── the finding order ──
 
@@ -135,3 +136,18 @@ unfold-from g m rounds s =
 -- the machine, its unfolding and the acceptor; nothing where the rounds do not suffice
 abbrev pub build : Grammar → Meaning → ℕ → Option Built
 build g m rounds = elim (numbered same (goto g) (upto (symbols g)) rounds (initial g)) [ none ↦ none | some s ↦ unfold-from g m rounds s ]
+
+-- the determinised acceptor; nothing where the rounds do not suffice
+abbrev pub determine : Acceptor → ℕ → Option Determined
+determine f rounds =
+    elim (numbered same (subset-step f) (upto (f .words)) rounds (first-set f)) [
+      | none ↦ none
+      | some s ↦ some (record { words = f .words; states = length (s .entries); finals = map (λ set. any (eqb (f .final)) set) (s .entries); arcs = s .moves })
+    ]
+
+-- whether a grammar is sound
+abbrev pub sound-test : Grammar → Bool
+sound-test g =
+    and (leb (g .words) (g .start))
+    (and (ltb (g .start) (symbols g))
+    (every (λ r. and (leb (g .words) (r .left)) (and (ltb (r .left) (symbols g)) (every (λ x. ltb x (symbols g)) (r .right)))) (g .rules)))

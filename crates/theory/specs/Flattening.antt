@@ -2,7 +2,7 @@
 use mathlib.Core.Path.{_≡_}
 use mathlib.Core.Logic.{_↔_, _⊎_}
 use mathlib.Core.List.{List, [], _∷_, List·Memᴰ}
-use Prim.Native.Nat.{ℕ, _<_}
+use Prim.Native.Nat.{ℕ, _+_, _*_, _<_}
 use lib.Dec.{ltb}
 use lib.ListN.{length}
 use Rattle.book.specs.Grammar.{Grammar, symbols, Rewrites}
@@ -19,6 +19,10 @@ pub record Acceptor : Type 0 where
   pub final : ℕ
   pub arcs : List Arrow
   pub jumps : List (ℕ × ℕ)
+
+-- how many bytes the acceptor's file has
+abbrev pub file-length : Acceptor → ℕ
+file-length f = 15 + 6 * length (f .arcs) + 4 * length (f .jumps)
 
 -- the moves on words, in their order
 abbrev pub word-moves : ℕ → List Arrow → List Arrow

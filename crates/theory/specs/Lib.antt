@@ -7,5 +7,6 @@ pub mod Unfolding
 pub mod Flattening
 pub mod Sentences
 pub mod Laws
-pub mod Executable
 pub mod Subsets
+pub mod Executable
+pub mod Rows

@@ -87,7 +87,3 @@ pub record PolicyLaws (moves : List Arrow) : Type 0 where
 abbrev pub arrivals : Meaning → Class → List ℕ → Class
 arrivals m c [] = c
 arrivals m c (t ∷ ts) = arrivals m (m .next c 0 0 t) ts
-
--- the path through states 1 2 3 1 4 2 is 0 1 4 2: the list is cut at the older arrival
-abbrev pub PathExample : Type 0
-PathExample = arrivals path (path .first) (1 ∷ (2 ∷ (3 ∷ (1 ∷ (4 ∷ (2 ∷ [])))))) ≡ states (0 ∷ (1 ∷ (4 ∷ (2 ∷ []))))

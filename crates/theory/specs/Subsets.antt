@@ -4,7 +4,7 @@ use mathlib.Core.Logic.{_↔_}
 use mathlib.Core.Bool.{Bool, true, false}
 use mathlib.Core.Option.{Option, none, some}
 use mathlib.Core.List.{List, [], _∷_, map, List·Memᴰ}
-use Prim.Native.Nat.{ℕ, _<_}
+use Prim.Native.Nat.{ℕ, _+_, _*_, _<_}
 use lib.Dec.{eqb}
 use lib.ListN.{length, getElem?}
 use Rattle.finding.specs.Numbered.{Arrow, upto, Numbered}
@@ -58,6 +58,10 @@ pub record Determined : Type 0 where
   pub states : ℕ
   pub finals : List Bool
   pub arcs : List Arrow
+
+-- how many bytes the determinised acceptor's file has
+abbrev pub determined-length : Determined → ℕ
+determined-length d = 11 + d .states + 6 * length (d .arcs)
 
 -- d is the determinised acceptor of f: its states are the sets found from the first set, numbered in finding order
 pub record Determinised (f : Acceptor) (d : Determined) : Type 0 where
