@@ -20,9 +20,8 @@ use Rattle.theory.specs.Flattening.Leads.{here, on}
 use Rattle.theory.specs.Executable.{Search, numbered, same-node, walk, leap, leaps, jumps-among, Built, finish, unfold-from, build}
 use Rattle.theory.proofs.Lists.{some-one, none-some, mem-upto, at-below}
 use Rattle.theory.proofs.Numbering.{entry-left, move-made, move-one}
-use Rattle.theory.proofs.States.{state-closed}
-use Rattle.theory.proofs.Unfolding.{along-mem, along-has, graph-lawful, final-node}
-use Rattle.theory.proofs.Flattening.{carried-over}
+use Rattle.theory.proofs.Unfolding.{along-mem, along-is, graph-lawful, final-node}
+use Rattle.theory.proofs.Flattening.{over-completes}
 use Rattle.theory.proofs.Arcs.{moves-ascend, word-moves-are, word-moves-ascend}
 use Rattle.theory.proofs.Searching.{computed}
 use Rattle.theory.proofs.Building.{same-tells, node-tells, joined-mem, joined-only, jumps-among-ascend, jumps-among-only, jumps-among-mem}
@@ -45,12 +44,9 @@ walk-leads moves (x ∷ xs) q {p} e = cases (λ t h. walk-leads moves xs t h) (a
 
 -- where an entry has one move on a symbol
 module _ (moves : List Arrow) (one : (q x p r : ℕ) → List·Memᴰ (q, x, p) moves → List·Memᴰ (q, x, r) moves → p ≡ r) where
-  along-is : {q x p : ℕ} → List·Memᴰ (q, x, p) moves → along moves q x ≡ some p
-  along-is {q} {x} {p} m = let (t, e) = along-has moves m in e ∙ ap some (one q x t p (along-mem moves e) m)
-
   leads-walk : {q p : ℕ} {xs : List ℕ} → Leads moves q xs p → walk moves q xs ≡ some p
   leads-walk here = refl
-  leads-walk (on {q = q} {x = x} {xs = xs} v l) = walk-on moves q x xs (along-is v) ∙ leads-walk l
+  leads-walk (on {q = q} {x = x} {xs = xs} v l) = walk-on moves q x xs (along-is moves one v) ∙ leads-walk l
 
   -- ── jumps ──
 
@@ -82,7 +78,7 @@ module _ (moves : List Arrow) (one : (q x p r : ℕ) → List·Memᴰ (q, x, p) 
   leaps-mem : (rules : List Rule) (n q : ℕ) (r : Rule) {p to : ℕ} → q < n → List·Memᴰ r rules → Leads moves q (r .right) p → List·Memᴰ (q, r .left, to) moves → List·Memᴰ (p, to) (leaps moves rules n)
   leaps-mem rules n q r {p} {to} b m l v =
       joined-mem (λ q. joined (leap moves q) rules) (upto n) (mem-upto n b)
-      (joined-mem (leap moves q) rules m (subst (List·Memᴰ (p, to)) (sym (leap-is q r (leads-walk l) (along-is v))) (List·Memᴰ·head refl)))
+      (joined-mem (leap moves q) rules m (subst (List·Memᴰ (p, to)) (sym (leap-is q r (leads-walk l) (along-is moves one v))) (List·Memᴰ·head refl)))
 
 module _ (g : Grammar) (u : Sound g) {sets : List (List ℕ)} {moves : List Arrow} (mt : Machine g sets moves) (m : Meaning)
     {nodes : List Node} {arrows : List Arrow} (un : Unfolded m moves (symbols g) nodes arrows) where
@@ -95,13 +91,6 @@ module _ (g : Grammar) (u : Sound g) {sets : List (List ℕ)} {moves : List Arro
   right-below : {q x p : ℕ} → List·Memᴰ (q, x, p) arrows → p < length nodes
   right-below {q} {x} {p} v = let (n, e) = entry-left un v in at-below nodes p (move-made un e v .place)
 
-  -- a node that moves over a name holds the name's rules, so it leads over each to the completed rule
-  completed : {q p to : ℕ} {a : ℕ} {s : List ℕ} → Rewrites g a s → Leads arrows q s p → List·Memᴰ (q, a, to) arrows → NodeHolds g sets nodes p a s []
-  completed {q} {p} {to} {a} {s} h l v =
-      let (b, k, r, i) = graph-lawful g u mt m un .move-only v in
-      let first : NodeHolds g sets nodes q a [] s = record { its = i .its; at = i .at; holds = state-closed g u mt (i .its .state) b a k r s (i .holds) h } in
-      carried-over g u mt m un l first
-
   pub jumps-are : (p to : ℕ) → List·Memᴰ (p, to) (jumps-among (leaps arrows (g .rules) (length nodes)) (length nodes)) ↔ Jump g sets nodes arrows p to
   jumps-are p to = (
     (λ k. let (q, i, j) = joined-only (λ q. joined (leap arrows q) (g .rules)) (upto (length nodes)) (jumps-among-only (leaps arrows (g .rules) (length nodes)) (length nodes) k) in
@@ -110,7 +99,7 @@ module _ (g : Grammar) (u : Sound g) {sets : List (List ℕ)} {moves : List Arro
         let l = walk-leads arrows (r .right) q (t .walks) in
         let v = along-mem arrows (t .moves-on) in
         let h : Rewrites g (r .left) (r .right) = (u .lefts-named r w, w) in
-        record { left = r .left; side = r .right; from = q; rewrites = h; item = completed h l v; leads = l; over = v }),
+        record { left = r .left; side = r .right; from = q; rewrites = h; item = over-completes g u mt m un h l v; leads = l; over = v }),
     (λ (j : Jump g sets nodes arrows p to).
         jumps-among-mem (leaps arrows (g .rules) (length nodes)) (length nodes) (at-below nodes p (j .item .at)) (right-below (j .over))
         (leaps-mem arrows one (g .rules) (length nodes) (j .from) (rule (j .left) (j .side)) (left-below (j .over)) (j .rewrites .1) (j .leads) (j .over))),

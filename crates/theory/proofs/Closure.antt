@@ -120,6 +120,15 @@ module _ (g : Grammar) where
       closure-unique L (closure g K) (closure-increasing K)
       (λ k. ((λ m. closed-map (λ j i. s j .0 i) (closure-members K k .0 m)), (λ c. closure-members K k .1 (closed-map (λ j i. s j .1 i) c))))
 
+  -- a set between the kernel and the closure that nothing opens further is the closure
+  pub closure-from-closed : (K set : List ℕ) → Increasing set → ((k : ℕ) → List·Memᴰ k K → k < item-count g → List·Memᴰ k set) → ((k : ℕ) → List·Memᴰ k set → Closed g K k)
+      → ((j k a c : ℕ) (l r s : List ℕ) → List·Memᴰ j set → Dotted g j a l (c ∷ r) → Dotted g k c [] s → List·Memᴰ k set) → set ≡ closure g K
+  closure-from-closed K set h start within open-in = closure-unique K set h (λ k. (within k, holds))
+    where
+      holds : {k : ℕ} → Closed g K k → List·Memᴰ k set
+      holds (kernel {k = k} m b) = start k m b
+      holds (opened {j = j} {k = k} {a = a} {c = c} {l = l} {r = r} {s = s} i d e) = open-in j k a c l r s (holds i) d e
+
   -- ── goto ──
 
   pub carried-members : (set : List ℕ) (x k : ℕ) → List·Memᴰ k (carried (items g) set x) ↔ Carried g set x k

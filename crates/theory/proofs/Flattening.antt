@@ -19,7 +19,7 @@ use Rattle.theory.specs.Flattening.Leads.{here, on}
 use Rattle.theory.proofs.Lists.{some-one, ascending-unique, at-mem, snoc-not-nil}
 use Rattle.theory.proofs.Items.{dotted-only, item-one}
 use Rattle.theory.proofs.Numbering.{numbered-unique, entry-left, move-one}
-use Rattle.theory.proofs.States.{machine-unique, first-moves}
+use Rattle.theory.proofs.States.{first-moves, state-closed}
 use Rattle.theory.proofs.Graphs.{Graph, Move, Lawful, Flat, Returns, Closes, Over}
 use Rattle.theory.proofs.Graphs.Closes.{kernel, opened}
 use Rattle.theory.proofs.Unfolding.{graph, graph-lawful, item-of, edge-on, final-node-one}
@@ -65,6 +65,23 @@ module _ (g : Grammar) (u : Sound g) {states : List (List ℕ)} {moves : List Ar
   forward-moves {q} {a} {s} i h =
       let (t, v) = first-moves g u mt (i .its .state) a s (i .holds) h in
       let (j, w, z) = edge-on g u mt m un (i .at) v in (j, w)
+
+  -- a node that moves over a name holds the name's rules with the dot in front
+  pub over-begins : {q a to : ℕ} {s : List ℕ} → Rewrites g a s → List·Memᴰ (q, a, to) arrows → NodeHolds g states nodes q a [] s
+  over-begins {q} {a} {to} {s} h v =
+      let (b, k, r, i) = graph-lawful g u mt m un .move-only v in
+      record { its = i .its; at = i .at; holds = state-closed g u mt (i .its .state) b a k r s (i .holds) h }
+
+  -- so it leads over each right side
+  pub leads-over : (r : List ℕ) {q a : ℕ} {l : List ℕ} → NodeHolds g states nodes q a l r → (p : ℕ) × Leads arrows q r p
+  leads-over [] {q} i = (q, here)
+  leads-over (x ∷ r) i =
+      let (t, v) = graph-lawful g u mt m un .move-when i in
+      let (p, w) = leads-over r (node-carries i v) in (p, on v w)
+
+  -- to the completed rule
+  pub over-completes : {q p to a : ℕ} {s : List ℕ} → Rewrites g a s → Leads arrows q s p → List·Memᴰ (q, a, to) arrows → NodeHolds g states nodes p a s []
+  over-completes h l v = carried-over l (over-begins h v)
 
   -- jumps are found going forward
   pub jump-forward : (p to : ℕ) → Jump g states nodes arrows p to ↔ ForwardJump g states nodes arrows p to
@@ -117,4 +134,10 @@ flat-unique g u mt m un {e} {f} h k =
 
 pub jump-laws : (g : Grammar) → Sound g → {states : List (List ℕ)} {moves : List Arrow} → Machine g states moves → (m : Meaning) {nodes : List Node} {arrows : List Arrow} → Unfolded m moves (symbols g) nodes arrows → JumpLaws g states nodes arrows
 jump-laws g u mt m un =
-    record { forward = jump-forward g u mt m un; moves-over = λ q a side i h. forward-moves g u mt m un i h; completes = λ q p a side i l. carried-over g u mt m un l i }
+    record {
+      forward = jump-forward g u mt m un;
+      moves-over = λ q a side i h. forward-moves g u mt m un i h;
+      completes = λ q p a side i l. carried-over g u mt m un l i;
+      leads-over = λ q a to side h v. leads-over g u mt m un side (over-begins g u mt m un h v);
+      over-completes = λ q p a to side h l v. over-completes g u mt m un h l v;
+    }

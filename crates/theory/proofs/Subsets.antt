@@ -10,15 +10,15 @@ use lib.Dec.{eqb}
 use lib.ListN.{length, getElem?}
 use borrow.Author.Tests.{eq-eqb, eqb-true}
 use Rattle.finding.specs.Numbered.{Arrow, upto, Numbered}
-use Rattle.theory.specs.Lists.{and, keep, any, saturate, Reach}
+use Rattle.theory.specs.Lists.{Increasing, and, keep, any, saturate, Reach}
 use Rattle.theory.specs.Lists.Reach.{base, step}
 use Rattle.theory.specs.Flattening.{Acceptor, Leads}
 use Rattle.theory.specs.Flattening.Leads.{here, on}
 use Rattle.theory.specs.Sentences.{Reads, Passes}
 use Rattle.theory.specs.Sentences.Reads.{stop, arc, jump}
 use Rattle.theory.specs.Subsets.{InRange, jumps-to, arcs-to, spread, first-set, word-set, words-set, passes, subset-step, Determined, Determinised, DeterminedPasses, SubsetLaws}
-use Rattle.theory.proofs.Lists.{and-is, and-only, some-one, none-some, keep-mem, mem-keep, any-mem, mem-any, mem-upto, upto-mem}
-use Rattle.theory.proofs.Saturated.{saturated}
+use Rattle.theory.proofs.Lists.{and-is, and-only, some-one, none-some, keep-mem, mem-keep, any-mem, mem-any, mem-upto, upto-mem, upto-increasing, increasing-unique}
+use Rattle.theory.proofs.Saturated.{saturated, saturate-increasing}
 use Rattle.theory.proofs.Numbering.{entry-zero, move-made, step-made as step-on, numbered-unique}
 
 -- ── readings ──
@@ -81,10 +81,11 @@ jumps-to-only f j k e =
 jumps-to-is : (f : Acceptor) (j k : ℕ) → List·Memᴰ (j, k) (f .jumps) → jumps-to f j k ≡ true
 jumps-to-is f j k m = mem-any (λ (a : ℕ × ℕ). and (eqb (a .0) j) (eqb (a .1) k)) (f .jumps) m (and-is (eqb j j) (eqb k k) (eq-eqb j j refl) (eq-eqb k k refl))
 
-record FromSet (f : Acceptor) (set : List ℕ) (x n : ℕ) : Type 0 where
-  from : ℕ
-  member : List·Memᴰ from set
-  over : List·Memᴰ (from, x, n) (f .arcs)
+-- an arc on x leads from a member of the set to n
+pub record FromSet (f : Acceptor) (set : List ℕ) (x n : ℕ) : Type 0 where
+  pub from : ℕ
+  pub member : List·Memᴰ from set
+  pub over : List·Memᴰ (from, x, n) (f .arcs)
 
 arcs-to-only : (f : Acceptor) (set : List ℕ) (x n : ℕ) → arcs-to f set x n ≡ true → FromSet f set x n
 arcs-to-only f set x n e =
@@ -127,6 +128,42 @@ module _ (f : Acceptor) (fit : InRange f) where
         (λ (j : Jumped set n). s .1 (jumped-reach (j .reads) refl (base (mem-upto (f .nodes) (within (j .from) (j .member))) (j .member)))),
       )
 
+  pub spread-increasing : (set : List ℕ) → Increasing (spread f set)
+  spread-increasing set = saturate-increasing (upto (f .nodes)) (jumps-to f) set (upto-increasing (f .nodes))
+
+  -- an increasing list of just those nodes is the spread set
+  pub spread-unique : (set to : List ℕ) → ((k : ℕ) → List·Memᴰ k set → k < f .nodes) → Increasing to → ((n : ℕ) → List·Memᴰ n to ↔ Jumped set n) → to ≡ spread f set
+  spread-unique set to within h m =
+      increasing-unique to (spread f set) h (spread-increasing set)
+      (λ n. ((λ i. spread-members set within n .1 (m n .0 i)), (λ i. m n .1 (spread-members set within n .0 i))))
+
+  -- a member of the set, over an arc on x, and jumps
+  pub record Onto (set : List ℕ) (x n : ℕ) : Type 0 where
+    pub middle : ℕ
+    pub by : FromSet f set x middle
+    pub reads : Reads f middle [] n
+
+  pub word-members : (set : List ℕ) (x n : ℕ) → List·Memᴰ n (word-set f set x) ↔ Onto set x n
+  word-members set x n =
+      let s = spread-members (keep (arcs-to f set x) (upto (f .nodes))) (λ k m. upto-mem (f .nodes) (keep-mem (arcs-to f set x) (upto (f .nodes)) m .0)) n in (
+        (λ m. let j = s .0 m in
+            let (b, e) = keep-mem (arcs-to f set x) (upto (f .nodes)) (j .member) in
+            record { middle = j .from; by = arcs-to-only f set x (j .from) e; reads = j .reads }),
+        (λ (o : Onto set x n).
+            let c = o .by in
+            s .1 (record {
+              from = o .middle;
+              member = mem-keep (arcs-to f set x) (upto (f .nodes)) (mem-upto (f .nodes) (fit .arcs-within (c .from) x (o .middle) (c .over) .2)) (arcs-to-is f set x (o .middle) c);
+              reads = o .reads;
+            })),
+      )
+
+  -- an increasing list of just those nodes is the set after the word
+  pub word-set-unique : (set : List ℕ) (x : ℕ) (to : List ℕ) → Increasing to → ((n : ℕ) → List·Memᴰ n to ↔ Onto set x n) → to ≡ word-set f set x
+  word-set-unique set x to h m =
+      increasing-unique to (word-set f set x) h (spread-increasing (keep (arcs-to f set x) (upto (f .nodes))))
+      (λ n. ((λ i. word-members set x n .1 (m n .0 i)), (λ i. m n .1 (word-members set x n .0 i))))
+
   -- the set has just the nodes to which w leads
   abbrev pub After : List ℕ → List ℕ → Type 0
   After w set = (n : ℕ) → List·Memᴰ n set ↔ Reads f 0 w n
@@ -140,21 +177,16 @@ module _ (f : Acceptor) (fit : InRange f) where
         (λ r. s .1 (record { from = 0; member = List·Memᴰ·head refl; reads = r })),
       )
 
+  -- an increasing list of just the nodes that jumps reach from node 0 is the first set
+  pub first-set-unique : (to : List ℕ) → Increasing to → ((n : ℕ) → List·Memᴰ n to ↔ Reads f 0 [] n) → to ≡ first-set f
+  first-set-unique to h m =
+      increasing-unique to (first-set f) h (spread-increasing (0 ∷ [])) (λ n. ((λ i. first-after n .1 (m n .0 i)), (λ i. m n .1 (first-after n .0 i))))
+
   pub word-after : {w set : List ℕ} → After w set → (x : ℕ) → After (w ++ (x ∷ [])) (word-set f set x)
   word-after {w} {set} h x n =
-      let hit = keep (arcs-to f set x) (upto (f .nodes)) in
-      let s = spread-members hit (λ k m. upto-mem (f .nodes) (keep-mem (arcs-to f set x) (upto (f .nodes)) m .0)) n in (
-        (λ m. let j = s .0 m in
-            let (b, e) = keep-mem (arcs-to f set x) (upto (f .nodes)) (j .member) in
-            let t = arcs-to-only f set x (j .from) e in
-            reads-++ (h (t .from) .0 (t .member)) (arc (t .over) (j .reads))),
-        (λ r. let c = last-word r w x refl in
-            s .1 (record {
-              from = c .right;
-              member = mem-keep (arcs-to f set x) (upto (f .nodes)) (mem-upto (f .nodes) (fit .arcs-within (c .left) x (c .right) (c .over) .2))
-                  (arcs-to-is f set x (c .right) (record { from = c .left; member = h (c .left) .1 (c .front); over = c .over }));
-              reads = c .back;
-            })),
+      let s = word-members set x n in (
+        (λ m. let o = s .0 m in reads-++ (h (o .by .from) .0 (o .by .member)) (arc (o .by .over) (o .reads))),
+        (λ r. let c = last-word r w x refl in s .1 (record { middle = c .right; by = record { from = c .left; member = h (c .left) .1 (c .front); over = c .over }; reads = c .back })),
       )
 
   pub words-after : (v : List ℕ) {w set : List ℕ} → After w set → After (w ++ v) (words-set f set v)

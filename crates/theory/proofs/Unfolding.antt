@@ -53,6 +53,17 @@ along-has ((q, y, o) ∷ ms) {s} {x} {p} m =
     (List·Memᴰ·cases-cons m))
     (true-or-false (and (eqb q s) (eqb y x)))
 
+pub along-none : (ms : List Arrow) (s x : ℕ) → ((p : ℕ) → List·Memᴰ (s, x, p) ms → ⊥) → along ms s x ≡ none
+along-none ms s x h = cases (along ms s x) refl
+  where
+    cases : (o : Option ℕ) → along ms s x ≡ o → along ms s x ≡ none
+    cases none e = e
+    cases (some t) e = absurd (h t (along-mem ms e))
+
+-- where an entry has one move on a symbol
+pub along-is : (ms : List Arrow) → ((q x p r : ℕ) → List·Memᴰ (q, x, p) ms → List·Memᴰ (q, x, r) ms → p ≡ r) → {q x p : ℕ} → List·Memᴰ (q, x, p) ms → along ms q x ≡ some p
+along-is ms one {q} {x} {p} m = let (t, e) = along-has ms m in e ∙ ap some (one q x t p (along-mem ms e) m)
+
 pub record Onward (m : Meaning) (ms : List Arrow) (n : Node) (x : ℕ) (v : Node) : Type 0 where
   pub target : ℕ
   pub moves : along ms (n .state) x ≡ some target

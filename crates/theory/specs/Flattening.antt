@@ -60,6 +60,9 @@ pub record JumpLaws (g : Grammar) (states : List (List ℕ)) (nodes : List Node)
   pub moves-over : (q a : ℕ) (side : List ℕ) → NodeHolds g states nodes q a [] side → Rewrites g a side → (to : ℕ) × List·Memᴰ (q, a, to) moves
   -- and leads over the rule's right side to nodes that hold the completed rule
   pub completes : (q p a : ℕ) (side : List ℕ) → NodeHolds g states nodes q a [] side → Leads moves q side p → NodeHolds g states nodes p a side []
+  -- a node that moves over a name leads over the right side of each of its rules, to the completed rule
+  pub leads-over : (q a to : ℕ) (side : List ℕ) → Rewrites g a side → List·Memᴰ (q, a, to) moves → (p : ℕ) × Leads moves q side p
+  pub over-completes : (q p a to : ℕ) (side : List ℕ) → Rewrites g a side → Leads moves q side p → List·Memᴰ (q, a, to) moves → NodeHolds g states nodes p a side []
 
 -- by the node left, then the word
 abbrev pub ArrowLess : Arrow → Arrow → Type 0
