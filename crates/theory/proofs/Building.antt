@@ -1,34 +1,22 @@
 -- What is built is the flattened acceptor.
 use mathlib.Core.Path.{_≡_, refl, sym, ap, ap₂, subst, _∙_}
-use mathlib.Core.Logic.{_↔_, _⊎_, inl, inr, ⊎-elim}
-use mathlib.Core.Bool.{Bool, true, false}
-use mathlib.Core.Option.{Option, none, some}
-use mathlib.Core.List.{List, [], _∷_, _++_, map, List·Memᴰ, List·Memᴰ·head, List·Memᴰ·tail, List·Memᴰ·not-nil, List·Memᴰ·cases-cons, List·Memᴰ·append-cases, Memᴰ·append-left, Memᴰ·append-right, Memᴰ·map, Memᴰ·of-map}
+use mathlib.Core.Logic.{inl, inr, ⊎-elim}
+use mathlib.Core.Bool.{Bool, true}
+use mathlib.Core.List.{List, [], _∷_, map, List·Memᴰ, List·Memᴰ·head, List·Memᴰ·tail, List·Memᴰ·not-nil, List·Memᴰ·cases-cons, List·Memᴰ·append-cases, Memᴰ·append-left, Memᴰ·append-right, Memᴰ·map, Memᴰ·of-map}
 use native.Mathlib.Omega.{arith}
-use Prim.Native.Nat.{ℕ, zero, suc, _+_, _≤_, _<_}
+use Prim.Native.Nat.{ℕ, _<_}
 use lib.Dec.{eqb}
-use lib.ListN.{length, getElem?}
 use borrow.Author.Tests.{eq-eqb, eqb-true, both-ways}
 use Rattle.std.specs.shelf.Lists.{joined}
-use Rattle.book.specs.Grammar.{Rule, rule, Grammar, symbols, Rewrites}
-use Rattle.finding.specs.Numbered.{Arrow, upto, Numbered}
-use Rattle.theory.specs.Lists.{Ascending, Increasing, and, keep, any, same}
-use Rattle.theory.specs.Items.{Sound}
-use Rattle.theory.specs.Closure.{goto, initial}
-use Rattle.theory.specs.Machine.{Machine, Holds}
-use Rattle.theory.specs.Policies.{Class, Meaning}
+use Rattle.finding.specs.Numbered.{upto}
+use Rattle.theory.specs.Lists.{Ascending, Increasing, any, same}
+use Rattle.theory.specs.Policies.{Class}
 use Rattle.theory.specs.Policies.Class.{states, pair}
-use Rattle.theory.specs.Unfolding.{along, Node, node, onward, Unfolded, NodeHolds, FinalNode}
-use Rattle.theory.specs.Flattening.{Acceptor, word-moves, Leads, Jump, JumpLess, FlattenedFrom, Flattened}
-use Rattle.theory.specs.Flattening.Leads.{here, on}
-use Rattle.theory.specs.Executable.{Search, numbered, same-class, same-node, same-pair, walk, leap, leaps, pairs, jumps-among, Built, finish, unfold-from, build}
-use Rattle.theory.proofs.Lists.{true-or-false, and-is, and-only, some-one, none-some, keep-mem, mem-keep, any-mem, mem-any, same-equal, all-mem, all-from-mem, ascending-append, ascending-keep, mem-upto, upto-mem, upto-increasing, at-below}
-use Rattle.theory.proofs.Numbering.{entry-left, move-made, move-one}
-use Rattle.theory.proofs.States.{state-closed}
-use Rattle.theory.proofs.Unfolding.{along-mem, along-has, graph-lawful, final-node}
-use Rattle.theory.proofs.Flattening.{carried-over}
-use Rattle.theory.proofs.Arcs.{moves-ascend, word-moves-are, word-moves-ascend}
-use Rattle.theory.proofs.Searching.{Tells, computed}
+use Rattle.theory.specs.Unfolding.{Node, node}
+use Rattle.theory.specs.Flattening.{JumpLess}
+use Rattle.theory.specs.Executable.{same-class, same-node, same-pair, pairs, jumps-among}
+use Rattle.theory.proofs.Lists.{and-is, and-only, keep-mem, mem-keep, any-mem, mem-any, same-equal, all-mem, all-from-mem, ascending-append, ascending-keep, mem-upto, upto-increasing}
+use Rattle.theory.proofs.Searching.{Tells}
 
 -- ── tests of equality ──
 

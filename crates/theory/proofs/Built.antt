@@ -1,11 +1,10 @@
 -- What is built is the flattened acceptor.
 use mathlib.Core.Path.{_≡_, refl, sym, ap, subst, _∙_}
-use mathlib.Core.Logic.{_↔_, _⊎_, inl, inr, ⊎-elim}
+use mathlib.Core.Logic.{_↔_, ⊎-elim}
 use mathlib.Core.Option.{Option, none, some}
-use mathlib.Core.List.{List, [], _∷_, _++_, List·Memᴰ, List·Memᴰ·head, List·Memᴰ·not-nil, List·Memᴰ·cases-cons}
-use native.Mathlib.Omega.{arith}
-use Prim.Native.Nat.{ℕ, zero, suc, _+_, _≤_, _<_}
-use lib.ListN.{length, getElem?}
+use mathlib.Core.List.{List, [], _∷_, List·Memᴰ, List·Memᴰ·head, List·Memᴰ·not-nil, List·Memᴰ·cases-cons}
+use Prim.Native.Nat.{ℕ, _<_}
+use lib.ListN.{length}
 use Rattle.std.specs.shelf.Lists.{joined}
 use Rattle.book.specs.Grammar.{Rule, rule, Grammar, symbols, Rewrites}
 use Rattle.finding.specs.Numbered.{Arrow, upto}
@@ -14,13 +13,13 @@ use Rattle.theory.specs.Items.{Sound}
 use Rattle.theory.specs.Closure.{goto, initial}
 use Rattle.theory.specs.Machine.{Machine}
 use Rattle.theory.specs.Policies.{Meaning}
-use Rattle.theory.specs.Unfolding.{along, Node, node, onward, Unfolded, NodeHolds, FinalNode}
+use Rattle.theory.specs.Unfolding.{along, Node, node, onward, Unfolded, FinalNode}
 use Rattle.theory.specs.Flattening.{Acceptor, word-moves, Leads, Jump, FlattenedFrom, Flattened}
 use Rattle.theory.specs.Flattening.Leads.{here, on}
 use Rattle.theory.specs.Executable.{Search, numbered, same-node, walk, leap, leaps, jumps-among, Built, finish, unfold-from, build}
 use Rattle.theory.proofs.Lists.{some-one, none-some, mem-upto, at-below}
 use Rattle.theory.proofs.Numbering.{entry-left, move-made, move-one}
-use Rattle.theory.proofs.Unfolding.{along-mem, along-is, graph-lawful, final-node}
+use Rattle.theory.proofs.Unfolding.{along-mem, along-is, final-node}
 use Rattle.theory.proofs.Flattening.{over-completes}
 use Rattle.theory.proofs.Arcs.{moves-ascend, word-moves-are, word-moves-ascend}
 use Rattle.theory.proofs.Searching.{computed}

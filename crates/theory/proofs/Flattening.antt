@@ -1,28 +1,24 @@
 -- Flattened acceptors: jumps can be found going forward, and there is one acceptor.
-use mathlib.Core.Path.{_≡_, refl, sym, ap, subst, _∙_}
+use mathlib.Core.Path.{_≡_, refl, sym, subst, _∙_}
 use mathlib.Core.Logic.{_↔_}
-use mathlib.Core.Option.{some}
 use mathlib.Core.List.{List, [], _∷_, _++_, append-assoc, append-nil, append-cancel-right, List·Memᴰ}
 use native.Mathlib.Omega.{arith}
-use Prim.Native.Nat.{ℕ, zero, suc, _+_, _≤_, _<_}
-use lib.ListN.{length, getElem?}
-use Rattle.book.specs.Grammar.{Grammar, rule, symbols, Rewrites}
+use Prim.Native.Nat.{ℕ}
+use Rattle.book.specs.Grammar.{Grammar, symbols, Rewrites}
 use Rattle.finding.specs.Numbered.{Arrow}
-use Rattle.theory.specs.Lists.{Ascending}
-use Rattle.theory.specs.Items.{Sound, Dotted, Numbers}
+use Rattle.theory.specs.Items.{Sound, Numbers}
 use Rattle.theory.specs.Items.Numbers.{added, ruled}
-use Rattle.theory.specs.Machine.{Machine, HasItem, Holds, FinalState}
+use Rattle.theory.specs.Machine.{Machine, HasItem}
 use Rattle.theory.specs.Policies.{Meaning}
 use Rattle.theory.specs.Unfolding.{Node, Unfolded, NodeHolds, FinalNode}
 use Rattle.theory.specs.Flattening.{Acceptor, Leads, Jump, ForwardJump, ArrowLess, JumpLess, JumpLaws, FlattenedFrom}
 use Rattle.theory.specs.Flattening.Leads.{here, on}
-use Rattle.theory.proofs.Lists.{some-one, ascending-unique, at-mem, snoc-not-nil}
+use Rattle.theory.proofs.Lists.{ascending-unique, at-mem, snoc-not-nil}
 use Rattle.theory.proofs.Items.{dotted-only, item-one}
-use Rattle.theory.proofs.Numbering.{numbered-unique, entry-left, move-one}
 use Rattle.theory.proofs.States.{first-moves, state-closed}
-use Rattle.theory.proofs.Graphs.{Graph, Move, Lawful, Flat, Returns, Closes, Over}
+use Rattle.theory.proofs.Graphs.{Flat, Closes, Over}
 use Rattle.theory.proofs.Graphs.Closes.{kernel, opened}
-use Rattle.theory.proofs.Unfolding.{graph, graph-lawful, item-of, edge-on, final-node-one}
+use Rattle.theory.proofs.Unfolding.{graph, graph-lawful, edge-on, final-node-one}
 
 -- ── the final node holds S' → start · ──
 

@@ -1,14 +1,10 @@
 -- A flattened acceptor names only its own words and nodes.
-use mathlib.Core.Path.{_≡_, refl, sym, ap, subst, _∙_}
-use mathlib.Core.List.{List, List·Memᴰ}
+use mathlib.Core.List.{List·Memᴰ}
 use native.Mathlib.Omega.{arith}
 use Prim.Native.Nat.{ℕ, _<_}
-use lib.ListN.{length}
-use Rattle.book.specs.Grammar.{Grammar, symbols}
-use Rattle.finding.specs.Numbered.{Arrow}
+use Rattle.book.specs.Grammar.{Grammar}
 use Rattle.theory.specs.Policies.{Meaning}
-use Rattle.theory.specs.Unfolding.{Node, Unfolded}
-use Rattle.theory.specs.Flattening.{Acceptor, FlattenedFrom, Flattened}
+use Rattle.theory.specs.Flattening.{Acceptor, Flattened}
 use Rattle.theory.specs.Subsets.{InRange}
 use Rattle.theory.proofs.Lists.{at-below}
 use Rattle.theory.proofs.Numbering.{entry-zero, entry-left, move-made}

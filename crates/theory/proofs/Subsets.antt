@@ -1,16 +1,16 @@
 -- Sets of nodes have just the nodes to which words lead, and the determinised acceptor has the same sentences.
 use mathlib.Core.Path.{_≡_, refl, sym, ap, subst, _∙_}
-use mathlib.Core.Logic.{_↔_, _⊎_, inl, inr, ⊎-elim}
-use mathlib.Core.Bool.{Bool, true, false}
-use mathlib.Core.Option.{Option, none, some}
-use mathlib.Core.List.{List, [], _∷_, _++_, map, append-assoc, append-nil, List·Memᴰ, List·Memᴰ·head, List·Memᴰ·tail, List·Memᴰ·not-nil, List·Memᴰ·cases-cons}
+use mathlib.Core.Logic.{_↔_, ⊎-elim}
+use mathlib.Core.Bool.{true}
+use mathlib.Core.Option.{none, some}
+use mathlib.Core.List.{List, [], _∷_, _++_, map, append-assoc, append-nil, List·Memᴰ, List·Memᴰ·head, List·Memᴰ·not-nil, List·Memᴰ·cases-cons}
 use native.Mathlib.Omega.{arith}
-use Prim.Native.Nat.{ℕ, zero, suc, _+_, _≤_, _<_}
+use Prim.Native.Nat.{ℕ, zero, suc, _<_}
 use lib.Dec.{eqb}
 use lib.ListN.{length, getElem?}
 use borrow.Author.Tests.{eq-eqb, eqb-true}
-use Rattle.finding.specs.Numbered.{Arrow, upto, Numbered}
-use Rattle.theory.specs.Lists.{Increasing, and, keep, any, saturate, Reach}
+use Rattle.finding.specs.Numbered.{Arrow, upto}
+use Rattle.theory.specs.Lists.{Increasing, and, keep, any, Reach}
 use Rattle.theory.specs.Lists.Reach.{base, step}
 use Rattle.theory.specs.Flattening.{Acceptor, Leads}
 use Rattle.theory.specs.Flattening.Leads.{here, on}

@@ -1,18 +1,18 @@
 -- The laws of flattened acceptors.
-use mathlib.Core.Path.{_≡_, refl, sym, ap, subst, _∙_}
-use mathlib.Core.Logic.{_⊎_, inl, inr, ⊎-elim}
-use mathlib.Core.List.{List, [], _∷_, List·Memᴰ}
-use Prim.Native.Nat.{ℕ, _<_}
-use Rattle.book.specs.Grammar.{Grammar, symbols, Sentence, Derives, DerivedFrom, LeftLinear, RightLinear}
+use mathlib.Core.Path.{_≡_, subst}
+use mathlib.Core.Logic.{_⊎_, ⊎-elim}
+use mathlib.Core.List.{List}
+use Prim.Native.Nat.{ℕ}
+use Rattle.book.specs.Grammar.{Grammar, symbols, Sentence, Derives, LeftLinear, RightLinear}
 use Rattle.finding.specs.Numbered.{Arrow}
 use Rattle.theory.specs.Items.{Sound}
 use Rattle.theory.specs.Machine.{Machine}
 use Rattle.theory.specs.Policies.{Meaning, FinerOn}
-use Rattle.theory.specs.Unfolding.{Node, Unfolded, FinalNode}
+use Rattle.theory.specs.Unfolding.{Node, Unfolded}
 use Rattle.theory.specs.Flattening.{Acceptor, FlattenedFrom, Flattened}
 use Rattle.theory.specs.Sentences.{Reads, Passes}
 use Rattle.theory.specs.Sentences.Reads.{stop, arc, jump}
-use Rattle.theory.specs.Laws.{Laws, AllLaws, Foundations}
+use Rattle.theory.specs.Laws.{AllLaws, Foundations}
 use Rattle.theory.proofs.Items.{items-length, dotted-only, dotted-at, dotted-next}
 use Rattle.theory.proofs.Closure.{closure-members, closure-increasing, goto-carried, goto-none, carried-members}
 use Rattle.theory.proofs.Policies.{policy-laws}
@@ -24,7 +24,7 @@ use Rattle.theory.proofs.Unfolding.{graph-lawful, final-node-one, unfolding-la
 use Rattle.theory.proofs.Superset.{accepted}
 use Rattle.theory.proofs.LeftExact.{left-exact}
 use Rattle.theory.proofs.RightExact.{right-exact}
-use Rattle.theory.proofs.Finer.{reads, refines, final-shared, Shared}
+use Rattle.theory.proofs.Finer.{reads, refines, final-shared}
 use Rattle.theory.proofs.Flattening.{final-holds, holds-final, flat-of, flat-unique, jump-laws}
 
 -- what is read is made of words

@@ -1,26 +1,26 @@
 -- The unfolded machine: its moves follow the machine's, each node is reached by a stack, and it is a lawful graph.
 use mathlib.Core.Path.{_≡_, refl, sym, ap, subst, _∙_}
-use mathlib.Core.Logic.{_↔_, _⊎_, inl, inr, ⊎-elim}
-use mathlib.Core.Bool.{Bool, true, false}
+use mathlib.Core.Logic.{_↔_, ⊎-elim}
+use mathlib.Core.Bool.{true, false}
 use mathlib.Core.Option.{Option, none, some}
 use mathlib.Core.List.{List, [], _∷_, _++_, List·Memᴰ, List·Memᴰ·head, List·Memᴰ·tail, List·Memᴰ·not-nil, List·Memᴰ·cases-cons}
 use native.Mathlib.Omega.{arith}
-use Prim.Native.Nat.{ℕ, zero, suc, _+_, _≤_, _<_}
+use Prim.Native.Nat.{ℕ, zero, suc, _<_}
 use lib.Dec.{eqb}
 use lib.ListN.{length, getElem?}
 use borrow.Author.Tests.{eq-eqb, eqb-true}
-use Rattle.book.specs.Grammar.{Grammar, symbols, Rewrites}
-use Rattle.finding.specs.Numbered.{Arrow, upto}
+use Rattle.book.specs.Grammar.{Grammar, symbols}
+use Rattle.finding.specs.Numbered.{Arrow}
 use Rattle.theory.specs.Lists.{and}
 use Rattle.theory.specs.Items.{Sound}
-use Rattle.theory.specs.Machine.{Machine, HasItem, Holds, FinalState}
-use Rattle.theory.specs.Policies.{Class, Meaning, Stacked}
+use Rattle.theory.specs.Machine.{Machine, Holds, FinalState}
+use Rattle.theory.specs.Policies.{Meaning, Stacked}
 use Rattle.theory.specs.Policies.Stacked.{empty, push}
 use Rattle.theory.specs.Unfolding.{along, Node, node, onward, Unfolded, NodeHolds, FinalNode, StackOf, UnfoldingLaws}
 use Rattle.theory.specs.Flattening.{Leads}
 use Rattle.theory.specs.Flattening.Leads.{here, on}
-use Rattle.theory.proofs.Lists.{true-or-false, and-is, and-only, some-one, none-some, mem-upto, below-at}
-use Rattle.theory.proofs.Numbering.{entry-zero, place-one, entry-left, move-made, step-made, move-symbol, move-one, from-earlier, numbered-unique}
+use Rattle.theory.proofs.Lists.{true-or-false, and-is, and-only, some-one, none-some, below-at}
+use Rattle.theory.proofs.Numbering.{entry-zero, entry-left, move-made, step-made, move-symbol, move-one, from-earlier, numbered-unique}
 use Rattle.theory.proofs.Machine.{zeroth, moved, moves-when, moves-only}
 use Rattle.theory.proofs.States.{zero-unentered, final-not-zero, final-entered, final-state, final-one}
 use Rattle.theory.proofs.Graphs.{Closes, closes-map, Outset, Over, Graph, Lawful, leads-on}

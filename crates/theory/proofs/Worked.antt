@@ -1,31 +1,29 @@
 -- The worked examples hold: a test that computes, and what it says of each row.
-use mathlib.Core.Path.{_≡_, refl, sym, ap, subst, _∙_}
+use mathlib.Core.Path.{_≡_, refl, sym, subst}
 use mathlib.Core.Bool.{Bool, true, false}
 use mathlib.Core.Option.{Option, none, some}
-use mathlib.Core.List.{List, [], _∷_, map, List·Memᴰ, List·Memᴰ·head, List·Memᴰ·tail}
+use mathlib.Core.List.{List, [], _∷_, map, List·Memᴰ·head, List·Memᴰ·tail}
 use native.Mathlib.Omega.{arith}
-use Prim.Native.Nat.{ℕ, _+_, _≤_, _<_}
+use Prim.Native.Nat.{ℕ, _<_}
 use lib.Dec.{eqb, leb, ltb}
 use lib.ListN.{length}
 use borrow.Author.Tests.{eqb-true, leb-true, ltb-true, both-ways}
-use Rattle.std.specs.shelf.Lists.{All}
 use Rattle.std.proofs.shelf.Elements.{all-weaker}
-use Rattle.book.specs.Grammar.{Rule, Grammar, symbols, Step, DerivedFrom, Derives}
+use Rattle.book.specs.Grammar.{Rule, Grammar, symbols, Step, Derives}
 use Rattle.book.specs.Grammar.DerivedFrom.{done, more}
-use Rattle.finding.specs.Numbered.{Arrow, upto}
+use Rattle.finding.specs.Numbered.{upto}
 use Rattle.theory.specs.Lists.{and, every, any, same}
 use Rattle.theory.specs.Items.{Sound}
-use Rattle.theory.specs.Policies.{Class, Meaning, path, arrivals}
-use Rattle.theory.specs.Flattening.{Acceptor, file-length, Flattened}
-use Rattle.theory.specs.Sentences.{Passes}
+use Rattle.theory.specs.Policies.{path, arrivals}
+use Rattle.theory.specs.Flattening.{Acceptor, file-length}
 use Rattle.theory.specs.Subsets.{InRange, passes, first-set, subset-step, Determined, determined-length, Determinised}
-use Rattle.theory.specs.Executable.{Search, numbered, Built, build, determine, sound-test, same-class}
-use Rattle.theory.specs.Rows.{FlatRow, SubsetRow, ClassRow, Row, Answered, FlatHolds, true-places, SubsetHolds, Holds, mirror, rows, AllRows, Witness, agree, enough, flat-test, subset-test, on-some, row-test}
+use Rattle.theory.specs.Executable.{Search, numbered, Built, build, determine, sound-test}
+use Rattle.theory.specs.Rows.{FlatRow, SubsetRow, Row, Answered, FlatHolds, true-places, SubsetHolds, Holds, mirror, rows, AllRows, Witness, agree, enough, flat-test, subset-test, on-some, row-test}
 use Rattle.theory.specs.Rows.Row.{flat, subset, class}
 use Rattle.theory.proofs.Lists.{and-only, some-one, none-some, same-equal, every-all, all-mem}
 use Rattle.theory.proofs.Searching.{computed}
 use Rattle.theory.proofs.Building.{same-tells, class-equal}
-use Rattle.theory.proofs.Built.{Sure, built, built-flattened}
+use Rattle.theory.proofs.Built.{built, built-flattened}
 use Rattle.theory.proofs.Ranges.{in-range}
 use Rattle.theory.proofs.Subsets.{passes-is}
 use Rattle.theory.proofs.Theorems.{nothing-lost}

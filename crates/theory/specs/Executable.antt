@@ -1,5 +1,4 @@
 -- The construction as functions that compute: the finding order within a number of rounds, and the flattened acceptor.
-use mathlib.Core.Path.{_≡_}
 use mathlib.Core.Bool.{Bool, true, false}
 use mathlib.Core.Option.{Option, none, some}
 use mathlib.Core.List.{List, [], _∷_, _++_, map}
