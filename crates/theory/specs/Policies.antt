@@ -19,6 +19,7 @@ abbrev pub listed : Class → List ℕ
 listed (states ss) = ss
 listed (pair c d) = []
 
+-- the halves of a pair
 abbrev pub left-class : Class → Class
 left-class (states ss) = states ss
 left-class (pair c d) = c
