@@ -1,16 +1,16 @@
 -- Moves stand in the order of an acceptor's arcs.
-use mathlib.Core.Path.{_≡_, refl, sym, ap, subst, _∙_}
-use mathlib.Core.Logic.{_↔_, _⊎_, inl, inr, ⊎-elim}
+use mathlib.Core.Path.{_≡_, sym}
+use mathlib.Core.Logic.{_↔_, inl, inr}
 use mathlib.Core.Option.{Option}
-use mathlib.Core.List.{List, [], _∷_, _++_, List·Memᴰ, List·Memᴰ·head, List·Memᴰ·tail}
+use mathlib.Core.List.{List, List·Memᴰ}
 use native.Mathlib.Omega.{arith}
-use Prim.Native.Nat.{ℕ, _+_, _≤_, _<_}
+use Prim.Native.Nat.{ℕ, _+_, _<_}
 use lib.Dec.{ltb}
 use borrow.Author.Tests.{ltb-true, lt-ltb}
 use Rattle.finding.specs.Numbered.{Arrow, upto, Row, Rows, Numbered}
 use Rattle.finding.specs.Numbered.Row.{end as row-end, pass, go}
 use Rattle.finding.specs.Numbered.Rows.{end as rows-end, row}
-use Rattle.theory.specs.Lists.{Ascending, Increasing, keep}
+use Rattle.theory.specs.Lists.{Ascending, Increasing}
 use Rattle.theory.specs.Flattening.{ArrowLess, word-moves}
 use Rattle.theory.proofs.Lists.{all-mem, all-from-mem, ascending-append, ascending-keep, keep-mem, mem-keep, upto-increasing}
 use Rattle.theory.proofs.Numbering.{row-only, rows-only, row-symbol}

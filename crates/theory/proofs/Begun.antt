@@ -4,7 +4,7 @@ use mathlib.Core.List.{List, [], _∷_, _++_, append-assoc, append-nil}
 use mathlib.Core.Logic.{_⊎_, inl, inr, ⊎-elim}
 use Prim.Native.Nat.{ℕ}
 use Rattle.book.specs.Grammar.{Grammar, symbols, Rewrites}
-use Rattle.theory.proofs.Graphs.{Graph, Lawful, Closes, Outset, Over, Way}
+use Rattle.theory.proofs.Graphs.{Graph, Lawful, Closes, Over, Way}
 use Rattle.theory.proofs.Graphs.Closes.{kernel, opened}
 use Rattle.theory.proofs.Graphs.Way.{from, over}
 

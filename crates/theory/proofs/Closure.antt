@@ -1,24 +1,23 @@
 -- The closure and goto, as lists, have just the members that their definitions say.
 use mathlib.Core.Path.{_≡_, refl, sym, ap, subst, _∙_}
-use mathlib.Core.Logic.{_↔_, _⊎_, inl, inr, ⊎-elim}
-use mathlib.Core.Bool.{Bool, true, false}
+use mathlib.Core.Logic.{_↔_}
+use mathlib.Core.Bool.{true, false}
 use mathlib.Core.Option.{Option, none, some}
-use mathlib.Core.List.{List, [], _∷_, _++_, map, List·Memᴰ, List·Memᴰ·head, List·Memᴰ·tail, List·Memᴰ·not-nil, Memᴰ·map, Memᴰ·of-map}
+use mathlib.Core.List.{List, [], _∷_, List·Memᴰ, List·Memᴰ·head, List·Memᴰ·not-nil, Memᴰ·map, Memᴰ·of-map}
 use native.Mathlib.Omega.{arith}
-use Prim.Native.Nat.{ℕ, zero, suc, _+_, _≤_, _<_}
-use lib.Dec.{eqb}
+use Prim.Native.Nat.{ℕ, suc, _<_}
 use lib.ListN.{length, getElem?}
 use borrow.Author.Tests.{eq-eqb, eqb-true}
 use Rattle.book.specs.Grammar.{Grammar}
 use Rattle.finding.specs.Numbered.{upto}
-use Rattle.theory.specs.Lists.{Increasing, and, keep, saturate, Reach}
+use Rattle.theory.specs.Lists.{Increasing, and, keep, Reach}
 use Rattle.theory.specs.Lists.Reach.{base, step}
 use Rattle.theory.specs.Items.{Item, item, items, item-count, Dotted}
-use Rattle.theory.specs.Closure.{Closed, begins-with, is-empty, follows, opens, close, closure, carried, goto, initial, Carried}
+use Rattle.theory.specs.Closure.{Closed, begins-with, is-empty, follows, opens, closure, carried, goto, Carried}
 use Rattle.theory.specs.Closure.Closed.{kernel, opened}
-use Rattle.theory.proofs.Lists.{and-is, and-only, some-one, none-some, keep-mem, mem-keep, increasing-unique, mem-upto, upto-mem, upto-increasing, at-below}
+use Rattle.theory.proofs.Lists.{and-only, some-one, none-some, keep-mem, mem-keep, increasing-unique, mem-upto, upto-mem, upto-increasing, at-below}
 use Rattle.theory.proofs.Saturated.{saturated, saturate-increasing}
-use Rattle.theory.proofs.Items.{items-length, dotted-below, dotted-next}
+use Rattle.theory.proofs.Items.{items-length, dotted-below}
 
 -- ── the tests ──
 
@@ -119,6 +118,15 @@ module _ (g : Grammar) where
   closure-same K L s =
       closure-unique L (closure g K) (closure-increasing K)
       (λ k. ((λ m. closed-map (λ j i. s j .0 i) (closure-members K k .0 m)), (λ c. closure-members K k .1 (closed-map (λ j i. s j .1 i) c))))
+
+  -- a set between the kernel and the closure that nothing opens further is the closure
+  pub closure-from-closed : (K set : List ℕ) → Increasing set → ((k : ℕ) → List·Memᴰ k K → k < item-count g → List·Memᴰ k set) → ((k : ℕ) → List·Memᴰ k set → Closed g K k)
+      → ((j k a c : ℕ) (l r s : List ℕ) → List·Memᴰ j set → Dotted g j a l (c ∷ r) → Dotted g k c [] s → List·Memᴰ k set) → set ≡ closure g K
+  closure-from-closed K set h start within open-in = closure-unique K set h (λ k. (within k, holds))
+    where
+      holds : {k : ℕ} → Closed g K k → List·Memᴰ k set
+      holds (kernel {k = k} m b) = start k m b
+      holds (opened {j = j} {k = k} {a = a} {c = c} {l = l} {r = r} {s = s} i d e) = open-in j k a c l r s (holds i) d e
 
   -- ── goto ──
 

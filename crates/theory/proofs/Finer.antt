@@ -1,5 +1,5 @@
 -- A finer policy passes no more: nodes of the two unfoldings that share a stack move, jump and end alike.
-use mathlib.Core.Path.{_≡_, refl, sym, ap, subst, _∙_}
+use mathlib.Core.Path.{_≡_, sym, ap, subst, _∙_}
 use mathlib.Core.List.{List, [], _∷_, List·Memᴰ}
 use mathlib.Core.Option.{some}
 use Prim.Native.Nat.{ℕ}
@@ -7,16 +7,16 @@ use lib.ListN.{getElem?}
 use Rattle.book.specs.Grammar.{Grammar, symbols}
 use Rattle.finding.specs.Numbered.{Arrow}
 use Rattle.theory.specs.Items.{Sound}
-use Rattle.theory.specs.Machine.{Machine}
+use Rattle.theory.specs.Machine.{Machine, FinalState}
 use Rattle.theory.specs.Policies.{Class, Meaning, Stacked, Finer}
 use Rattle.theory.specs.Policies.Stacked.{empty, push}
-use Rattle.theory.specs.Unfolding.{Node, node, Unfolded, NodeHolds, FinalNode}
+use Rattle.theory.specs.Unfolding.{Node, node, Unfolded, FinalNode}
 use Rattle.theory.specs.Flattening.{Acceptor, Leads}
 use Rattle.theory.specs.Flattening.Leads.{here, on}
 use Rattle.theory.specs.Sentences.{Reads}
 use Rattle.theory.specs.Sentences.Reads.{stop, arc, jump}
 use Rattle.theory.proofs.Lists.{some-one}
-use Rattle.theory.proofs.Numbering.{entry-zero, place-one}
+use Rattle.theory.proofs.Numbering.{place-one}
 use Rattle.theory.proofs.Graphs.{Graph, Move, Lawful, Flat, Returns}
 use Rattle.theory.proofs.Unfolding.{node-zero, edge, edge-on, graph, item-of}
 
@@ -121,5 +121,5 @@ module _ (g : Grammar) (u : Sound g) {states : List (List ℕ)} {moves : List Ar
       record {
         its = node (s .state) (s .coarse);
         at = s .coarse-at;
-        final = subst (λ (k : Node). Rattle.theory.specs.Machine.FinalState states (k .state)) (some-one (h .at) (s .fine-at)) (h .final);
+        final = subst (λ (k : Node). FinalState states (k .state)) (some-one (h .at) (s .fine-at)) (h .final);
       }

@@ -1,28 +1,24 @@
 -- Flattened acceptors: jumps can be found going forward, and there is one acceptor.
-use mathlib.Core.Path.{_≡_, refl, sym, ap, subst, _∙_}
+use mathlib.Core.Path.{_≡_, refl, sym, subst, _∙_}
 use mathlib.Core.Logic.{_↔_}
-use mathlib.Core.Option.{some}
 use mathlib.Core.List.{List, [], _∷_, _++_, append-assoc, append-nil, append-cancel-right, List·Memᴰ}
 use native.Mathlib.Omega.{arith}
-use Prim.Native.Nat.{ℕ, zero, suc, _+_, _≤_, _<_}
-use lib.ListN.{length, getElem?}
-use Rattle.book.specs.Grammar.{Grammar, rule, symbols, Rewrites}
+use Prim.Native.Nat.{ℕ}
+use Rattle.book.specs.Grammar.{Grammar, symbols, Rewrites}
 use Rattle.finding.specs.Numbered.{Arrow}
-use Rattle.theory.specs.Lists.{Ascending}
-use Rattle.theory.specs.Items.{Sound, Dotted, Numbers}
+use Rattle.theory.specs.Items.{Sound, Numbers}
 use Rattle.theory.specs.Items.Numbers.{added, ruled}
-use Rattle.theory.specs.Machine.{Machine, HasItem, Holds, FinalState}
+use Rattle.theory.specs.Machine.{Machine, HasItem}
 use Rattle.theory.specs.Policies.{Meaning}
 use Rattle.theory.specs.Unfolding.{Node, Unfolded, NodeHolds, FinalNode}
 use Rattle.theory.specs.Flattening.{Acceptor, Leads, Jump, ForwardJump, ArrowLess, JumpLess, JumpLaws, FlattenedFrom}
 use Rattle.theory.specs.Flattening.Leads.{here, on}
-use Rattle.theory.proofs.Lists.{some-one, ascending-unique, at-mem, snoc-not-nil}
+use Rattle.theory.proofs.Lists.{ascending-unique, at-mem, snoc-not-nil}
 use Rattle.theory.proofs.Items.{dotted-only, item-one}
-use Rattle.theory.proofs.Numbering.{numbered-unique, entry-left, move-one}
-use Rattle.theory.proofs.States.{machine-unique, first-moves}
-use Rattle.theory.proofs.Graphs.{Graph, Move, Lawful, Flat, Returns, Closes, Over}
+use Rattle.theory.proofs.States.{first-moves, state-closed}
+use Rattle.theory.proofs.Graphs.{Flat, Closes, Over}
 use Rattle.theory.proofs.Graphs.Closes.{kernel, opened}
-use Rattle.theory.proofs.Unfolding.{graph, graph-lawful, item-of, edge-on, final-node-one}
+use Rattle.theory.proofs.Unfolding.{graph, graph-lawful, edge-on, final-node-one}
 
 -- ── the final node holds S' → start · ──
 
@@ -65,6 +61,23 @@ module _ (g : Grammar) (u : Sound g) {states : List (List ℕ)} {moves : List Ar
   forward-moves {q} {a} {s} i h =
       let (t, v) = first-moves g u mt (i .its .state) a s (i .holds) h in
       let (j, w, z) = edge-on g u mt m un (i .at) v in (j, w)
+
+  -- a node that moves over a name holds the name's rules with the dot in front
+  pub over-begins : {q a to : ℕ} {s : List ℕ} → Rewrites g a s → List·Memᴰ (q, a, to) arrows → NodeHolds g states nodes q a [] s
+  over-begins {q} {a} {to} {s} h v =
+      let (b, k, r, i) = graph-lawful g u mt m un .move-only v in
+      record { its = i .its; at = i .at; holds = state-closed g u mt (i .its .state) b a k r s (i .holds) h }
+
+  -- so it leads over each right side
+  pub leads-over : (r : List ℕ) {q a : ℕ} {l : List ℕ} → NodeHolds g states nodes q a l r → (p : ℕ) × Leads arrows q r p
+  leads-over [] {q} i = (q, here)
+  leads-over (x ∷ r) i =
+      let (t, v) = graph-lawful g u mt m un .move-when i in
+      let (p, w) = leads-over r (node-carries i v) in (p, on v w)
+
+  -- to the completed rule
+  pub over-completes : {q p to a : ℕ} {s : List ℕ} → Rewrites g a s → Leads arrows q s p → List·Memᴰ (q, a, to) arrows → NodeHolds g states nodes p a s []
+  over-completes h l v = carried-over l (over-begins h v)
 
   -- jumps are found going forward
   pub jump-forward : (p to : ℕ) → Jump g states nodes arrows p to ↔ ForwardJump g states nodes arrows p to
@@ -117,4 +130,10 @@ flat-unique g u mt m un {e} {f} h k =
 
 pub jump-laws : (g : Grammar) → Sound g → {states : List (List ℕ)} {moves : List Arrow} → Machine g states moves → (m : Meaning) {nodes : List Node} {arrows : List Arrow} → Unfolded m moves (symbols g) nodes arrows → JumpLaws g states nodes arrows
 jump-laws g u mt m un =
-    record { forward = jump-forward g u mt m un; moves-over = λ q a side i h. forward-moves g u mt m un i h; completes = λ q p a side i l. carried-over g u mt m un l i }
+    record {
+      forward = jump-forward g u mt m un;
+      moves-over = λ q a side i h. forward-moves g u mt m un i h;
+      completes = λ q p a side i l. carried-over g u mt m un l i;
+      leads-over = λ q a to side h v. leads-over g u mt m un side (over-begins g u mt m un h v);
+      over-completes = λ q p a to side h l v. over-completes g u mt m un h l v;
+    }

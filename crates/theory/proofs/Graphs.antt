@@ -1,5 +1,5 @@
 -- Numbered places with items and moves: what the laws ask of them.
-use mathlib.Core.Path.{_≡_, refl, sym, ap, subst, _∙_}
+use mathlib.Core.Path.{_≡_, sym, subst}
 use mathlib.Core.Logic.{_↔_}
 use mathlib.Core.List.{List, [], _∷_, _++_, append-assoc, append-nil, List·Memᴰ}
 use Prim.Native.Nat.{ℕ, _<_}

@@ -1,16 +1,16 @@
 -- The items of a grammar: how they are numbered, and what stands at a number.
 use mathlib.Core.Path.{_≡_, refl, sym, ap, subst, _∙_}
-use mathlib.Core.Logic.{_⊎_, inl, inr, ⊎-elim}
+use mathlib.Core.Logic.{⊎-elim}
 use mathlib.Core.Option.{Option, none, some}
 use mathlib.Core.List.{List, [], _∷_, _++_, append-assoc, append-nil, List·Memᴰ, List·Memᴰ·head, Memᴰ·append-right}
 use native.Mathlib.Omega.{arith}
-use Prim.Native.Nat.{ℕ, zero, suc, _+_, _≤_, _<_}
+use Prim.Native.Nat.{ℕ, zero, suc, _+_, _<_}
 use lib.ListN.{length, take, getElem?}
-use Rattle.std.specs.shelf.Lists.{All, joined}
+use Rattle.std.specs.shelf.Lists.{joined}
 use Rattle.std.proofs.shelf.Lists.{length-append}
 use Rattle.book.specs.Grammar.{Rule, rule, Grammar, symbols, Rewrites}
 use Rattle.book.specs.Tables.{Fit, FitRule, dots as rules-count}
-use Rattle.theory.specs.Items.{Item, item, dots, rule-items, items, Dotted, item-count, first-item, Sound, Numbers}
+use Rattle.theory.specs.Items.{Item, item, dots, rule-items, items, Dotted, item-count, first-item, symbol-after, Sound, Numbers}
 use Rattle.theory.specs.Items.Numbers.{added, ruled}
 use Rattle.theory.proofs.Lists.{some-one, none-some, all-mem, at-left, at-right, Later, at-split, at-below, below-at, at-mem, mem-at}
 
@@ -196,3 +196,49 @@ fit-sound g f =
       lefts-known = λ r m. all-mem (FitRule g) (g .rules) (f .each) m .left .1;
       rights-known = λ r m. all-mem (FitRule g) (g .rules) (f .each) m .right;
     }
+
+-- ── the symbol after the dot ──
+
+pub symbol-after-is : (g : Grammar) (k : ℕ) {a c : ℕ} {l r : List ℕ} → Dotted g k a l (c ∷ r) → symbol-after g k ≡ some c
+symbol-after-is g k e = rw (e, symbol-after)
+
+pub symbol-after-end : (g : Grammar) (k : ℕ) {a : ℕ} {l : List ℕ} → Dotted g k a l [] → symbol-after g k ≡ none
+symbol-after-end g k e = rw (e, symbol-after)
+
+-- an item with c after its dot
+pub record HasAfter (g : Grammar) (k c : ℕ) : Type 0 where
+  pub left : ℕ
+  pub before : List ℕ
+  pub after : List ℕ
+  pub is : Dotted g k left before (c ∷ after)
+
+pub symbol-after-only : (g : Grammar) (k : ℕ) {c : ℕ} → symbol-after g k ≡ some c → HasAfter g k c
+symbol-after-only g k {c} h = cases (getElem? (items g) k) refl
+  where
+    ends : (i : Item) (r : List ℕ) → i .after ≡ r → getElem? (items g) k ≡ some i → HasAfter g k c
+    ends i [] q e = absurd (none-some (symbol-after-end g k (e ∙ ap (λ r. some (item (i .left) (i .before) r)) q)) h)
+    ends i (x ∷ r) q e =
+        let d : Dotted g k (i .left) (i .before) (x ∷ r) = e ∙ ap (λ r. some (item (i .left) (i .before) r)) q in
+        let p : x ≡ c = some-one (symbol-after-is g k d) h in
+        record { left = i .left; before = i .before; after = r; is = d ∙ ap (λ y. some (item (i .left) (i .before) (y ∷ r))) p }
+
+    cases : (o : Option Item) → getElem? (items g) k ≡ o → HasAfter g k c
+    cases none e = absurd (none-some (let q : symbol-after g k ≡ none = rw (e, symbol-after) in q) h)
+    cases (some i) e = ends i (i .after) refl e
+
+-- the first item of the rule at a place
+pub first-dotted : (g : Grammar) (i : ℕ) {a : ℕ} {s : List ℕ} → getElem? (g .rules) i ≡ some (rule a s) → Dotted g (first-item g i) a [] s
+first-dotted g i {a} {s} e = dotted-at g (first-item g i) (ruled i (rule a s) e (omega arith) refl refl)
+
+-- an item that a name after a dot opens is the first item of one of the name's rules
+pub record FirstOf (g : Grammar) (k c : ℕ) (s : List ℕ) : Type 0 where
+  pub place : ℕ
+  pub at : getElem? (g .rules) place ≡ some (rule c s)
+  pub number : k ≡ first-item g place
+
+pub first-of : (g : Grammar) → (k c : ℕ) (s : List ℕ) → c < symbols g → Dotted g k c [] s → FirstOf g k c s
+first-of g k c s h e = cases (dotted-only g k e)
+  where
+    cases : Numbers g k c [] s → FirstOf g k c s
+    cases (added n p q) = absurd (omega arith)
+    cases (ruled i r p n a w) = record { place = i; at = p ∙ ap some (λ j. rule (sym a j) (sym w j)); number = omega arith }

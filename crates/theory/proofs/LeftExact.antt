@@ -2,7 +2,7 @@
 use mathlib.Core.Path.{_≡_, refl, sym, ap, subst, _∙_}
 use mathlib.Core.List.{List, [], _∷_, _++_, append-assoc, append-nil}
 use native.Mathlib.Omega.{arith}
-use Prim.Native.Nat.{ℕ, _≤_, _<_}
+use Prim.Native.Nat.{ℕ, _≤_}
 use Rattle.book.specs.Grammar.{Grammar, symbols, DerivedFrom, LeftLinear}
 use Rattle.book.specs.Grammar.DerivedFrom.{done, more}
 use Rattle.theory.specs.Flattening.{Acceptor}
@@ -11,7 +11,7 @@ use Rattle.theory.specs.Sentences.Reads.{stop, arc, jump}
 use Rattle.theory.proofs.Graphs.{Graph, Move, Lawful, Flat, Closes, Over, Way, way-to}
 use Rattle.theory.proofs.Graphs.Closes.{kernel, opened}
 use Rattle.theory.proofs.Graphs.Way.{from, over}
-use Rattle.theory.proofs.Begun.{Ruled, ruled, Begun, begun}
+use Rattle.theory.proofs.Begun.{Ruled, ruled, begun}
 use Rattle.theory.proofs.Begun.Ruled.{added, given}
 use Rattle.theory.proofs.Lists.{snoc-not-nil}
 use Rattle.theory.proofs.Steps.{step-last, derives-front, sentence-at}

@@ -3,6 +3,7 @@ pub mod Saturated
 pub mod Items
 pub mod Closure
 pub mod Numbering
+pub mod Searching
 pub mod Graphs
 pub mod Machine
 pub mod Steps
@@ -17,4 +18,9 @@ pub mod Finer
 pub mod Flattening
 pub mod Arcs
 pub mod Policies
+pub mod Building
+pub mod Built
+pub mod Subsets
+pub mod Ranges
 pub mod Theorems
+pub mod Worked

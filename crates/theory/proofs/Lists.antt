@@ -3,16 +3,16 @@ use mathlib.Core.Path.{_≡_, refl, sym, ap, subst, _∙_}
 use mathlib.Core.Logic.{_↔_, _⊎_, inl, inr, ⊎-elim}
 use mathlib.Core.Bool.{Bool, true, false}
 use mathlib.Core.Option.{Option, none, some}
-use mathlib.Core.List.{List, [], _∷_, _++_, map, List·Memᴰ, List·Memᴰ·head, List·Memᴰ·tail, List·Memᴰ·not-nil, List·Memᴰ·cases-cons, List·Memᴰ·append-cases, Memᴰ·append-left, Memᴰ·append-right, Memᴰ·cast}
+use mathlib.Core.List.{List, [], _∷_, _++_, List·Memᴰ, List·Memᴰ·head, List·Memᴰ·tail, List·Memᴰ·not-nil, List·Memᴰ·cases-cons, List·Memᴰ·append-cases, Memᴰ·append-left, Memᴰ·append-right}
 use native.Mathlib.Omega.{arith}
 use Prim.Native.Nat.{ℕ, zero, suc, _+_, _≤_, _<_}
 use lib.Dec.{eqb}
 use lib.ListN.{length, getElem?}
-use borrow.Author.Tests.{eq-eqb, eqb-true}
+use borrow.Author.Tests.{eqb-true}
 use Rattle.std.specs.shelf.Lists.{All}
 use Rattle.std.proofs.shelf.Elements.{all-append}
 use Rattle.finding.specs.Numbered.{upto}
-use Rattle.theory.specs.Lists.{Ascending, Increasing, and, or, keep, any, same}
+use Rattle.theory.specs.Lists.{Ascending, Increasing, and, or, keep, any, every, same}
 
 -- ── tests ──
 
@@ -83,6 +83,13 @@ module _ {A : Type 0} (p : A → Bool) where
       ⊎-elim (λ q. let f : p x ≡ true = ap p (sym q) ∙ e in rw (f, any))
       (λ t. let r = mem-any xs t e in ⊎-elim (λ (f : p x ≡ true). rw (f, any)) (λ (f : p x ≡ false). rw (f, any) r) (true-or-false (p x)))
       (List·Memᴰ·cases-cons m)
+
+  pub every-all : (xs : List A) → every p xs ≡ true → All (λ x. p x ≡ true) xs
+  every-all [] e = tt
+  every-all (x ∷ xs) e =
+      ⊎-elim (λ (q : p x ≡ true). (q, every-all xs (rw (q, every) at e)))
+      (λ (q : p x ≡ false). let k : every p (x ∷ xs) ≡ false = rw (q, every) in let z : _≡_ {A = ℕ} 0 1 = cc in absurd (omega arith))
+      (true-or-false (p x))
 
   pub keep-length : (xs : List A) → length (keep p xs) ≤ length xs
   keep-length [] = omega arith

@@ -1,21 +1,20 @@
 -- The characteristic machine: its states hold just the items that the construction says.
 use mathlib.Core.Path.{_≡_, refl, sym, ap, subst, _∙_}
-use mathlib.Core.Logic.{_↔_, _⊎_, inl, inr, ⊎-elim}
-use mathlib.Core.Option.{Option, none, some}
-use mathlib.Core.List.{List, [], _∷_, _++_, List·Memᴰ, List·Memᴰ·head, List·Memᴰ·tail, List·Memᴰ·not-nil, List·Memᴰ·cases-cons}
-use native.Mathlib.Omega.{arith}
-use Prim.Native.Nat.{ℕ, zero, suc, _+_, _≤_, _<_}
-use lib.ListN.{length, getElem?}
-use Rattle.book.specs.Grammar.{Grammar, symbols, Rewrites}
-use Rattle.finding.specs.Numbered.{Arrow, upto, Numbered}
-use Rattle.theory.specs.Items.{Item, item, items, item-count, Dotted, Sound}
-use Rattle.theory.specs.Closure.{Closed, closure, carried, goto, initial, Carried}
+use mathlib.Core.Logic.{_↔_, ⊎-elim}
+use mathlib.Core.Option.{none, some}
+use mathlib.Core.List.{List, [], _∷_, _++_, List·Memᴰ, List·Memᴰ·head, List·Memᴰ·not-nil, List·Memᴰ·cases-cons}
+use Prim.Native.Nat.{ℕ, suc}
+use lib.ListN.{getElem?}
+use Rattle.book.specs.Grammar.{Grammar, symbols}
+use Rattle.finding.specs.Numbered.{Arrow}
+use Rattle.theory.specs.Items.{Item, item, items, Dotted, Sound}
+use Rattle.theory.specs.Closure.{Closed, closure, carried, initial, Carried}
 use Rattle.theory.specs.Closure.Closed.{kernel, opened}
-use Rattle.theory.specs.Machine.{Machine, HasItem, Holds, FinalState}
+use Rattle.theory.specs.Machine.{Machine, HasItem, Holds}
 use Rattle.theory.proofs.Lists.{some-one, mem-upto}
-use Rattle.theory.proofs.Items.{dotted-below, dotted-next, rule-first, first-rewrites, after-known, item-zero, item-one}
-use Rattle.theory.proofs.Closure.{closure-members, carried-members, goto-carried, goto-only, Reached}
-use Rattle.theory.proofs.Numbering.{entry-zero, entry-left, move-made, step-made, Made}
+use Rattle.theory.proofs.Items.{dotted-below, dotted-next, rule-first, first-rewrites, after-known, item-zero}
+use Rattle.theory.proofs.Closure.{closure-members, carried-members, goto-carried, goto-only}
+use Rattle.theory.proofs.Numbering.{entry-zero, entry-left, move-made, step-made}
 use Rattle.theory.proofs.Graphs.{Closes, Outset, Over}
 use Rattle.theory.proofs.Graphs.Closes.{kernel as c-kernel, opened as c-opened}
 

@@ -12,7 +12,7 @@ use Rattle.finding.specs.Numbered.Row.{end as row-end, pass, go}
 use Rattle.finding.specs.Numbered.Rows.{end as rows-end, row}
 use Rattle.theory.proofs.Lists.{some-one, none-some, at-left, at-below, mem-at}
 
-all-++ : {A B : Type 0} (f : A → List B) (xs ys : List A) → all f (xs ++ ys) ≡ all f xs ++ all f ys
+pub all-++ : {A B : Type 0} (f : A → List B) (xs ys : List A) → all f (xs ++ ys) ≡ all f xs ++ all f ys
 all-++ f [] ys = refl
 all-++ f (x ∷ xs) ys = ap (λ l. f x ++ l) (all-++ f xs ys) ∙ sym (append-assoc (f x) (all f xs) (all f ys))
 
@@ -92,7 +92,7 @@ module _ {A : Type 0} (targets : A → List A) (start : A) where
       let (m, w) = past e before after (a .front) (a .back) (sym p ∙ a .joins) here (λ z. firsts-unseen (f .in-order) e before after p z) in
       (m ++ b .back, append-cancel-left before rest (e ∷ (m ++ b .back)) (sym q ∙ b .joins ∙ ap (λ l. l ++ b .back) (sym same ∙ w) ∙ append-assoc before (e ∷ m) (b .back)))
 
-  snoc-ne : (xs : List A) (x : A) → xs ++ (x ∷ []) ≢ []
+  pub snoc-ne : (xs : List A) (x : A) → xs ++ (x ∷ []) ≢ []
   snoc-ne [] x e = let z : _≡_ {A = ℕ} 0 1 = cc in omega arith
   snoc-ne (y ∷ ys) x e = let z : _≡_ {A = ℕ} 0 1 = cc in omega arith
 

@@ -1,13 +1,13 @@
 -- How the meanings of policies compare.
-use mathlib.Core.Path.{_≡_, refl, sym, ap, ap₂, subst, _∙_}
-use mathlib.Core.List.{List, [], _∷_, _++_, map, List·Memᴰ}
+use mathlib.Core.Path.{_≡_, refl, sym, ap, subst, _∙_}
+use mathlib.Core.List.{List, [], _∷_, map}
 use native.Mathlib.Omega.{arith}
-use Prim.Native.Nat.{ℕ, zero, suc, _+_, _≤_}
+use Prim.Native.Nat.{ℕ, zero, suc, _+_}
 use lib.ListN.{take}
 use Rattle.std.proofs.shelf.Lists.{take-take}
 use Rattle.finding.specs.Numbered.{Arrow}
-use Rattle.theory.specs.Policies.{Class, Meaning, one-class, last, both, left-class, right-class, listed, Stacked, Finer, PolicyLaws}
-use Rattle.theory.specs.Policies.Class.{states, pair}
+use Rattle.theory.specs.Policies.{Class, Meaning, one-class, last, both, left-class, right-class, listed, Stacked, PolicyLaws}
+use Rattle.theory.specs.Policies.Class.{states}
 use Rattle.theory.specs.Policies.Stacked.{empty, push}
 
 module _ (moves : List Arrow) where

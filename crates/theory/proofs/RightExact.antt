@@ -2,13 +2,13 @@
 use mathlib.Core.Path.{_≡_, refl, sym, ap, subst, _∙_}
 use mathlib.Core.List.{List, [], _∷_, _++_, append-assoc, append-nil}
 use native.Mathlib.Omega.{arith}
-use Prim.Native.Nat.{ℕ, _≤_, _<_}
+use Prim.Native.Nat.{ℕ, _≤_}
 use Rattle.book.specs.Grammar.{Grammar, symbols, Rewrites, DerivedFrom, Sentence, RightLinear}
-use Rattle.book.specs.Grammar.DerivedFrom.{done, more}
+use Rattle.book.specs.Grammar.DerivedFrom.{done}
 use Rattle.theory.specs.Flattening.{Acceptor}
 use Rattle.theory.specs.Sentences.{Reads}
 use Rattle.theory.specs.Sentences.Reads.{stop, arc, jump}
-use Rattle.theory.proofs.Graphs.{Graph, Move, Lawful, Flat, Returns, Closes, Over, Way, way-to}
+use Rattle.theory.proofs.Graphs.{Graph, Lawful, Flat, Returns, Closes, Over, Way, way-to}
 use Rattle.theory.proofs.Graphs.Closes.{kernel, opened}
 use Rattle.theory.proofs.Graphs.Way.{from, over}
 use Rattle.theory.proofs.Begun.{Ruled, ruled}

@@ -2,13 +2,13 @@
 use mathlib.Core.Path.{_≡_, refl, sym, ap, subst, _∙_}
 use mathlib.Core.Logic.{_↔_, _⊎_, inl, inr, ⊎-elim}
 use mathlib.Core.Bool.{Bool, true, false}
-use mathlib.Core.List.{List, [], _∷_, _++_, List·Memᴰ, List·Memᴰ·head, List·Memᴰ·tail}
+use mathlib.Core.List.{List, [], _∷_, List·Memᴰ, List·Memᴰ·head, List·Memᴰ·tail}
 use native.Mathlib.Omega.{arith}
 use Prim.Native.Nat.{ℕ, zero, suc, _+_, _≤_, _<_}
 use lib.Dec.{eqb}
 use lib.ListN.{length}
 use borrow.Author.Tests.{eq-eqb, eqb-true}
-use Rattle.theory.specs.Lists.{Increasing, keep, any, same, joins, grow, rounds, saturate, Reach}
+use Rattle.theory.specs.Lists.{Increasing, keep, same, joins, grow, rounds, saturate, Reach}
 use Rattle.theory.specs.Lists.Reach.{base, step}
 use Rattle.theory.proofs.Lists.{true-or-false, or-left, or-right, or-cases, keep-take, keep-leave, keep-mem, mem-keep, any-mem, mem-any, keep-length, ascending-keep, same-equal}
 

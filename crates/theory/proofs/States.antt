@@ -1,22 +1,20 @@
 -- The machine's first and final states, and that a grammar has one machine.
-use mathlib.Core.Path.{_≡_, refl, sym, ap, subst, _∙_}
-use mathlib.Core.Logic.{_↔_, _⊎_, inl, inr, ⊎-elim}
-use mathlib.Core.Option.{Option, none, some}
-use mathlib.Core.List.{List, [], _∷_, _++_, List·Memᴰ, List·Memᴰ·head, List·Memᴰ·tail, List·Memᴰ·not-nil, List·Memᴰ·cases-cons}
+use mathlib.Core.Path.{_≡_, refl, sym, ap, subst}
+use mathlib.Core.Logic.{⊎-elim}
+use mathlib.Core.List.{List, [], _∷_, _++_, List·Memᴰ, List·Memᴰ·head, List·Memᴰ·not-nil, List·Memᴰ·cases-cons}
 use native.Mathlib.Omega.{arith}
-use Prim.Native.Nat.{ℕ, zero, suc, _+_, _≤_, _<_}
-use lib.ListN.{length, getElem?}
+use Prim.Native.Nat.{ℕ, zero, suc}
 use Rattle.book.specs.Grammar.{Grammar, rule, symbols, Rewrites}
 use Rattle.finding.specs.Numbered.{Arrow}
-use Rattle.theory.specs.Items.{Item, item, items, item-count, Dotted, Sound}
-use Rattle.theory.specs.Closure.{Closed, carried, initial, Carried}
+use Rattle.theory.specs.Items.{Item, item, items, Dotted, Sound}
+use Rattle.theory.specs.Closure.{Closed, carried}
 use Rattle.theory.specs.Closure.Closed.{kernel, opened}
 use Rattle.theory.specs.Machine.{Machine, HasItem, Holds, FinalState, MachineLaws}
 use Rattle.theory.proofs.Lists.{some-one, snoc-not-nil}
-use Rattle.theory.proofs.Items.{after-known, dotted-next, rule-first, item-zero, item-one}
+use Rattle.theory.proofs.Items.{after-known, item-zero, item-one}
 use Rattle.theory.proofs.Closure.{carried-members}
 use Rattle.theory.proofs.Numbering.{from-earlier, move-one, numbered-unique}
-use Rattle.theory.proofs.Machine.{same-item, state-zero, zero-closed, zeroth, Ends, ends, move-closed, moved, moves-when, moves-only}
+use Rattle.theory.proofs.Machine.{same-item, state-zero, zero-closed, zeroth, ends, move-closed, moved, moves-when, moves-only}
 use Rattle.theory.proofs.Graphs.{Closes, Outset, Over}
 use Rattle.theory.proofs.Graphs.Closes.{kernel as c-kernel, opened as c-opened}
 

@@ -1,8 +1,8 @@
 -- Derivation by steps: one more step, steps in a context.
-use mathlib.Core.Path.{_≡_, refl, sym, ap, subst, _∙_}
+use mathlib.Core.Path.{refl, sym, ap, _∙_}
 use mathlib.Core.List.{List, [], _∷_, _++_, append-assoc, append-nil}
-use Prim.Native.Nat.{ℕ, _+_, _≤_, _<_}
-use Rattle.book.specs.Grammar.{Grammar, symbols, Rewrites, Step, DerivedFrom, Sentence}
+use Prim.Native.Nat.{ℕ, _<_}
+use Rattle.book.specs.Grammar.{Grammar, Rewrites, Step, DerivedFrom, Sentence}
 use Rattle.book.specs.Grammar.DerivedFrom.{done, more}
 
 pub step-last : {g : Grammar} (d : List ℕ) {a : ℕ} {s : List ℕ} → Rewrites g a s → Step g (d ++ (a ∷ [])) (d ++ s)

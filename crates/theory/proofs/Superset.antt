@@ -1,13 +1,13 @@
 -- No sentence is lost: what the grammar derives is read along arcs and jumps.
-use mathlib.Core.Path.{_≡_, refl, sym, ap, subst, _∙_}
-use mathlib.Core.List.{List, [], _∷_, _++_, append-assoc, append-nil, List·Memᴰ}
-use Prim.Native.Nat.{ℕ, _+_, _≤_, _<_}
+use mathlib.Core.Path.{refl, sym, subst}
+use mathlib.Core.List.{List, [], _∷_, _++_, append-assoc, append-nil}
+use Prim.Native.Nat.{ℕ}
 use Rattle.book.specs.Grammar.{Grammar, symbols, Rewrites, Derives}
 use Rattle.theory.specs.Flattening.{Acceptor, Leads}
 use Rattle.theory.specs.Flattening.Leads.{here, on}
 use Rattle.theory.specs.Sentences.{Reads}
 use Rattle.theory.specs.Sentences.Reads.{stop, arc, jump}
-use Rattle.theory.proofs.Graphs.{Graph, Move, Lawful, Flat, Closes, Outset, Over, Way}
+use Rattle.theory.proofs.Graphs.{Graph, Move, Lawful, Flat, Way}
 use Rattle.theory.proofs.Graphs.Closes.{kernel, opened}
 use Rattle.theory.proofs.Graphs.Way.{from, over}
 use Rattle.theory.proofs.Trees.{Yields, tree}

@@ -1,28 +1,30 @@
 -- The laws of flattened acceptors.
-use mathlib.Core.Path.{_≡_, refl, sym, ap, subst, _∙_}
-use mathlib.Core.Logic.{_⊎_, inl, inr, ⊎-elim}
-use mathlib.Core.List.{List, [], _∷_, List·Memᴰ}
-use Prim.Native.Nat.{ℕ, _<_}
-use Rattle.book.specs.Grammar.{Grammar, symbols, Sentence, Derives, DerivedFrom, LeftLinear, RightLinear}
+use mathlib.Core.Path.{_≡_, subst}
+use mathlib.Core.Logic.{_⊎_, ⊎-elim}
+use mathlib.Core.List.{List}
+use Prim.Native.Nat.{ℕ}
+use Rattle.book.specs.Grammar.{Grammar, symbols, Sentence, Derives, LeftLinear, RightLinear}
 use Rattle.finding.specs.Numbered.{Arrow}
 use Rattle.theory.specs.Items.{Sound}
 use Rattle.theory.specs.Machine.{Machine}
 use Rattle.theory.specs.Policies.{Meaning, FinerOn}
-use Rattle.theory.specs.Unfolding.{Node, Unfolded, FinalNode}
+use Rattle.theory.specs.Unfolding.{Node, Unfolded}
 use Rattle.theory.specs.Flattening.{Acceptor, FlattenedFrom, Flattened}
 use Rattle.theory.specs.Sentences.{Reads, Passes}
 use Rattle.theory.specs.Sentences.Reads.{stop, arc, jump}
-use Rattle.theory.specs.Laws.{Laws, AllLaws, Foundations}
+use Rattle.theory.specs.Laws.{AllLaws, Foundations}
 use Rattle.theory.proofs.Items.{items-length, dotted-only, dotted-at, dotted-next}
 use Rattle.theory.proofs.Closure.{closure-members, closure-increasing, goto-carried, goto-none, carried-members}
 use Rattle.theory.proofs.Policies.{policy-laws}
+use Rattle.theory.proofs.Ranges.{in-range}
+use Rattle.theory.proofs.Subsets.{subset-laws}
 use Rattle.theory.proofs.Numbering.{numbered-unique}
 use Rattle.theory.proofs.States.{machine-unique, machine-laws}
 use Rattle.theory.proofs.Unfolding.{graph-lawful, final-node-one, unfolding-laws}
 use Rattle.theory.proofs.Superset.{accepted}
 use Rattle.theory.proofs.LeftExact.{left-exact}
 use Rattle.theory.proofs.RightExact.{right-exact}
-use Rattle.theory.proofs.Finer.{reads, refines, final-shared, Shared}
+use Rattle.theory.proofs.Finer.{reads, refines, final-shared}
 use Rattle.theory.proofs.Flattening.{final-holds, holds-final, flat-of, flat-unique, jump-laws}
 
 -- what is read is made of words
@@ -83,7 +85,7 @@ module _ (g : Grammar) (u : Sound g) where
       (subst (λ (a : List Arrow). FlattenedFrom g (h .states) (h .nodes) a f) vs (subst (λ (a : List Node). FlattenedFrom g (h .states) a (o .arrows) f) ns (o .flattens)))
 
 pub all-laws : AllLaws
-all-laws g u = record { nothing-lost = nothing-lost g u; exact = exact g u; finer = finer g u; one = one-acceptor g u }
+all-laws g u = record { nothing-lost = nothing-lost g u; exact = exact g u; finer = finer g u; in-range = λ m f h. in-range g m h; one = one-acceptor g u }
 
 pub foundations : Foundations
 foundations =
@@ -100,4 +102,5 @@ foundations =
       unfolding-laws = λ g u states moves mt m nodes arrows un. unfolding-laws g u mt m un;
       jumps = λ g u states moves mt m nodes arrows un. jump-laws g u mt m un;
       policies = policy-laws;
+      subsets = subset-laws;
     }

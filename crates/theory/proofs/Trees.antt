@@ -1,8 +1,8 @@
 -- Derivation trees: what a list of symbols derives, symbol by symbol.
 use mathlib.Core.Path.{_≡_, refl, sym, ap, subst, _∙_}
-use mathlib.Core.List.{List, [], _∷_, _++_, append-assoc, append-nil}
-use Prim.Native.Nat.{ℕ, _+_, _≤_, _<_}
-use Rattle.book.specs.Grammar.{Grammar, symbols, Rewrites, Step, DerivedFrom, Sentence}
+use mathlib.Core.List.{List, [], _∷_, _++_, append-assoc}
+use Prim.Native.Nat.{ℕ, _<_}
+use Rattle.book.specs.Grammar.{Grammar, Rewrites, Step, DerivedFrom, Sentence}
 use Rattle.book.specs.Grammar.DerivedFrom.{done, more}
 
 -- derivation trees of the symbols of a list, side by side

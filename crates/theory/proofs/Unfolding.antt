@@ -1,26 +1,26 @@
 -- The unfolded machine: its moves follow the machine's, each node is reached by a stack, and it is a lawful graph.
 use mathlib.Core.Path.{_≡_, refl, sym, ap, subst, _∙_}
-use mathlib.Core.Logic.{_↔_, _⊎_, inl, inr, ⊎-elim}
-use mathlib.Core.Bool.{Bool, true, false}
+use mathlib.Core.Logic.{_↔_, ⊎-elim}
+use mathlib.Core.Bool.{true, false}
 use mathlib.Core.Option.{Option, none, some}
 use mathlib.Core.List.{List, [], _∷_, _++_, List·Memᴰ, List·Memᴰ·head, List·Memᴰ·tail, List·Memᴰ·not-nil, List·Memᴰ·cases-cons}
 use native.Mathlib.Omega.{arith}
-use Prim.Native.Nat.{ℕ, zero, suc, _+_, _≤_, _<_}
+use Prim.Native.Nat.{ℕ, zero, suc, _<_}
 use lib.Dec.{eqb}
 use lib.ListN.{length, getElem?}
 use borrow.Author.Tests.{eq-eqb, eqb-true}
-use Rattle.book.specs.Grammar.{Grammar, symbols, Rewrites}
-use Rattle.finding.specs.Numbered.{Arrow, upto}
+use Rattle.book.specs.Grammar.{Grammar, symbols}
+use Rattle.finding.specs.Numbered.{Arrow}
 use Rattle.theory.specs.Lists.{and}
 use Rattle.theory.specs.Items.{Sound}
-use Rattle.theory.specs.Machine.{Machine, HasItem, Holds, FinalState}
-use Rattle.theory.specs.Policies.{Class, Meaning, Stacked}
+use Rattle.theory.specs.Machine.{Machine, Holds, FinalState}
+use Rattle.theory.specs.Policies.{Meaning, Stacked}
 use Rattle.theory.specs.Policies.Stacked.{empty, push}
 use Rattle.theory.specs.Unfolding.{along, Node, node, onward, Unfolded, NodeHolds, FinalNode, StackOf, UnfoldingLaws}
 use Rattle.theory.specs.Flattening.{Leads}
 use Rattle.theory.specs.Flattening.Leads.{here, on}
-use Rattle.theory.proofs.Lists.{true-or-false, and-is, and-only, some-one, none-some, mem-upto, below-at}
-use Rattle.theory.proofs.Numbering.{entry-zero, place-one, entry-left, move-made, step-made, move-symbol, move-one, from-earlier, numbered-unique}
+use Rattle.theory.proofs.Lists.{true-or-false, and-is, and-only, some-one, none-some, below-at}
+use Rattle.theory.proofs.Numbering.{entry-zero, entry-left, move-made, step-made, move-symbol, move-one, from-earlier, numbered-unique}
 use Rattle.theory.proofs.Machine.{zeroth, moved, moves-when, moves-only}
 use Rattle.theory.proofs.States.{zero-unentered, final-not-zero, final-entered, final-state, final-one}
 use Rattle.theory.proofs.Graphs.{Closes, closes-map, Outset, Over, Graph, Lawful, leads-on}
@@ -52,6 +52,17 @@ along-has ((q, y, o) ∷ ms) {s} {x} {p} m =
     (λ k. let (t, e) = along-has ms k in (t, along-miss q y o ms s x h ∙ e))
     (List·Memᴰ·cases-cons m))
     (true-or-false (and (eqb q s) (eqb y x)))
+
+pub along-none : (ms : List Arrow) (s x : ℕ) → ((p : ℕ) → List·Memᴰ (s, x, p) ms → ⊥) → along ms s x ≡ none
+along-none ms s x h = cases (along ms s x) refl
+  where
+    cases : (o : Option ℕ) → along ms s x ≡ o → along ms s x ≡ none
+    cases none e = e
+    cases (some t) e = absurd (h t (along-mem ms e))
+
+-- where an entry has one move on a symbol
+pub along-is : (ms : List Arrow) → ((q x p r : ℕ) → List·Memᴰ (q, x, p) ms → List·Memᴰ (q, x, r) ms → p ≡ r) → {q x p : ℕ} → List·Memᴰ (q, x, p) ms → along ms q x ≡ some p
+along-is ms one {q} {x} {p} m = let (t, e) = along-has ms m in e ∙ ap some (one q x t p (along-mem ms e) m)
 
 pub record Onward (m : Meaning) (ms : List Arrow) (n : Node) (x : ℕ) (v : Node) : Type 0 where
   pub target : ℕ

@@ -2,7 +2,7 @@
 use mathlib.Core.Path.{_≡_}
 use mathlib.Core.Logic.{_↔_, _⊎_}
 use mathlib.Core.List.{List, [], _∷_, List·Memᴰ}
-use Prim.Native.Nat.{ℕ, _<_}
+use Prim.Native.Nat.{ℕ, _+_, _*_, _<_}
 use lib.Dec.{ltb}
 use lib.ListN.{length}
 use Rattle.book.specs.Grammar.{Grammar, symbols, Rewrites}
@@ -19,6 +19,10 @@ pub record Acceptor : Type 0 where
   pub final : ℕ
   pub arcs : List Arrow
   pub jumps : List (ℕ × ℕ)
+
+-- how many bytes the acceptor's file has
+abbrev pub file-length : Acceptor → ℕ
+file-length f = 15 + 6 * length (f .arcs) + 4 * length (f .jumps)
 
 -- the moves on words, in their order
 abbrev pub word-moves : ℕ → List Arrow → List Arrow
@@ -56,6 +60,9 @@ pub record JumpLaws (g : Grammar) (states : List (List ℕ)) (nodes : List Node)
   pub moves-over : (q a : ℕ) (side : List ℕ) → NodeHolds g states nodes q a [] side → Rewrites g a side → (to : ℕ) × List·Memᴰ (q, a, to) moves
   -- and leads over the rule's right side to nodes that hold the completed rule
   pub completes : (q p a : ℕ) (side : List ℕ) → NodeHolds g states nodes q a [] side → Leads moves q side p → NodeHolds g states nodes p a side []
+  -- a node that moves over a name leads over the right side of each of its rules, to the completed rule
+  pub leads-over : (q a to : ℕ) (side : List ℕ) → Rewrites g a side → List·Memᴰ (q, a, to) moves → (p : ℕ) × Leads moves q side p
+  pub over-completes : (q p a to : ℕ) (side : List ℕ) → Rewrites g a side → Leads moves q side p → List·Memᴰ (q, a, to) moves → NodeHolds g states nodes p a side []
 
 -- by the node left, then the word
 abbrev pub ArrowLess : Arrow → Arrow → Type 0

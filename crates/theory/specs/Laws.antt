@@ -15,6 +15,7 @@ use Rattle.theory.specs.Policies.{Meaning, FinerOn, PolicyLaws}
 use Rattle.theory.specs.Unfolding.{Node, Unfolded, UnfoldingLaws}
 use Rattle.theory.specs.Flattening.{Acceptor, Flattened, JumpLaws}
 use Rattle.theory.specs.Sentences.{Passes}
+use Rattle.theory.specs.Subsets.{InRange, SubsetLaws}
 
 pub record Laws (g : Grammar) : Type 0 where
   -- no sentence that the grammar derives is lost
@@ -23,6 +24,8 @@ pub record Laws (g : Grammar) : Type 0 where
   pub exact : LeftLinear g ⊎ RightLinear g → (m : Meaning) (f : Acceptor) → Flattened g m f → (w : List ℕ) → Passes f w → Derives g w
   -- a finer policy passes no more
   pub finer : (m n : Meaning) → FinerOn g m n → (e f : Acceptor) → Flattened g m e → Flattened g n f → (w : List ℕ) → Passes e w → Passes f w
+  -- the acceptor names only its own words and nodes
+  pub in-range : (m : Meaning) (f : Acceptor) → Flattened g m f → InRange f
   -- a grammar has one acceptor under a policy
   pub one : (m : Meaning) (e f : Acceptor) → Flattened g m e → Flattened g m f → e ≡ f
 
@@ -30,7 +33,7 @@ pub record Laws (g : Grammar) : Type 0 where
 abbrev pub AllLaws : Type 0
 AllLaws = (g : Grammar) → Sound g → Laws g
 
--- what holds of the parts: items, closure, machine, unfolding, jumps and policies
+-- what holds of the parts: items, closure, machine, unfolding, jumps, policies and sets of nodes
 pub record Foundations : Type 0 where
   -- items are numbered rule by rule, and the next number has the dot carried over
   pub item-numbers : (g : Grammar) → length (items g) ≡ item-count g
@@ -49,3 +52,4 @@ pub record Foundations : Type 0 where
   pub jumps : (g : Grammar) → Sound g → (states : List (List ℕ)) (moves : List Arrow) → Machine g states moves
       → (m : Meaning) (nodes : List Node) (arrows : List Arrow) → Unfolded m moves (symbols g) nodes arrows → JumpLaws g states nodes arrows
   pub policies : (moves : List Arrow) → PolicyLaws moves
+  pub subsets : (f : Acceptor) → InRange f → SubsetLaws f

@@ -7,3 +7,6 @@ pub mod Unfolding
 pub mod Flattening
 pub mod Sentences
 pub mod Laws
+pub mod Subsets
+pub mod Executable
+pub mod Rows

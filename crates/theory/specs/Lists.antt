@@ -34,6 +34,11 @@ abbrev pub any : {A : Type 0} → (A → Bool) → List A → Bool
 any test [] = false
 any test (x ∷ xs) = elim (test x) [ true ↦ true | false ↦ any test xs ]
 
+-- whether every element passes a test
+abbrev pub every : {A : Type 0} → (A → Bool) → List A → Bool
+every test [] = true
+every test (x ∷ xs) = elim (test x) [ true ↦ every test xs | false ↦ false ]
+
 -- whether two lists of numbers are equal
 abbrev pub same : List ℕ → List ℕ → Bool
 same [] [] = true

@@ -1,7 +1,7 @@
 -- Policies by their meaning: which stacks of the machine share a class.
 use mathlib.Core.Path.{_≡_}
 use mathlib.Core.Bool.{true, false}
-use mathlib.Core.List.{List, [], _∷_, _++_, List·Memᴰ}
+use mathlib.Core.List.{List, [], _∷_, List·Memᴰ}
 use Prim.Native.Nat.{ℕ, _+_}
 use lib.Dec.{eqb}
 use lib.ListN.{take}
@@ -19,6 +19,7 @@ abbrev pub listed : Class → List ℕ
 listed (states ss) = ss
 listed (pair c d) = []
 
+-- the halves of a pair
 abbrev pub left-class : Class → Class
 left-class (states ss) = states ss
 left-class (pair c d) = c
@@ -87,7 +88,3 @@ pub record PolicyLaws (moves : List Arrow) : Type 0 where
 abbrev pub arrivals : Meaning → Class → List ℕ → Class
 arrivals m c [] = c
 arrivals m c (t ∷ ts) = arrivals m (m .next c 0 0 t) ts
-
--- the path through states 1 2 3 1 4 2 is 0 1 4 2: the list is cut at the older arrival
-abbrev pub PathExample : Type 0
-PathExample = arrivals path (path .first) (1 ∷ (2 ∷ (3 ∷ (1 ∷ (4 ∷ (2 ∷ [])))))) ≡ states (0 ∷ (1 ∷ (4 ∷ (2 ∷ []))))
