@@ -2,3 +2,4 @@ pub mod Indexing
 pub mod IndexWalk
 pub mod Noting
 pub mod Taking
+pub mod Opening

@@ -13,7 +13,7 @@ use Rattle.theory.specs.Items.{Dotted, item-count}
 use Rattle.theory.specs.Closure.{Closed}
 use Rattle.machine.specs.declared.items.Items.{Items}
 use Rattle.machine.specs.declared.closure.Closing.{Closing}
-use Rattle.machine.specs.Index.{FirstOf, Indexed}
+use Rattle.machine.specs.Index.{Chain, FirstOf, Indexed}
 
 -- the items are those of the grammar g
 pub record ItemsOf (g : Grammar) (items : Items) : Type 0 where
@@ -69,3 +69,10 @@ pub record Grown (c c′ : Closing) : Type 0 where
 -- the rules of the first i names that were noted are in the set
 abbrev pub OpenedTo : Grammar → ℕ → Closing → Type 0
 OpenedTo g i c = (n k : ℕ) → List·Memᴰ n (take i (c .names)) → FirstOf g (g .words + n) k → In (c .set .words) k
+
+-- of the first items of the name c, all but those that the chain from k still passes are in the set
+pub record ToOpen (g : Grammar) (next : List ℕ) (c k : ℕ) (set : List ℕ) : Type 0 where
+  pub rest : List ℕ
+  pub chain : Chain next k rest
+  pub firsts : (j : ℕ) → List·Memᴰ j rest → FirstOf g c j
+  pub done : (j : ℕ) → FirstOf g c j → In set j ⊎ List·Memᴰ j rest

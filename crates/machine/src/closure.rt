@@ -5,7 +5,9 @@ ghost use Prim.Native.Nat.{ℕ, _+_, _<_, _≤_};
 ghost use Rattle.book.specs.Grammar.{Grammar};
 ghost use Rattle.table.specs.Sets.{In};
 ghost use Rattle.theory.specs.Closure.{Closed};
-ghost use Rattle.machine.specs.Closing.{ItemsOf, Notes, NotedMore, Within, Grown};
+ghost use Rattle.book.specs.Tables.{Name};
+ghost use Rattle.machine.specs.Index.{FirstOf};
+ghost use Rattle.machine.specs.Closing.{ItemsOf, Notes, NotedMore, AfterDot, Within, Grown};
 use super::items::Items;
 use table::numbers::ItemNo;
 use table::numbers::ItemNoNumber;
@@ -54,5 +56,20 @@ impl Items {
             return;
         }
         at.note(name);
+    }
+
+    /// Puts the first items of a name's rules in.
+    fn open_name(&self, at: &mut Closing, name: usize)
+        requires named { ⌜ ((g : Grammar) × ItemsOf g (now self) × Name g (g .words + name)) ⌝ }
+        requires notes { ⌜ Notes (now at) ⌝ }
+        ensures grown { λ _. ⌜ Grown (now (at .entry)) (now (at .exit)) ⌝ }
+        ensures within { λ _. ⌜ ((g : Grammar) (K : List ℕ) → ItemsOf g (now (self .entry)) → Name g (g .words + name) → AfterDot g K (g .words + name) → Within g K (now (at .entry)) → Within g K (now (at .exit))) ⌝ }
+        ensures opened { λ _. ⌜ ((g : Grammar) (k : ℕ) → ItemsOf g (now (self .entry)) → Name g (g .words + name) → FirstOf g (g .words + name) k → In (now (at .exit) .set .words) k) ⌝ }
+    {
+        let mut k = self.head[name];
+        while k != 0 {
+            self.take_item(at, ItemNo(k));
+            k = self.next[k as usize];
+        }
     }
 }
