@@ -3,3 +3,5 @@ pub mod IndexWalk
 pub mod Noting
 pub mod Taking
 pub mod Opening
+pub mod Orders
+pub mod Seeding

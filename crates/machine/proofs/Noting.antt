@@ -7,7 +7,7 @@ use Prim.Native.Nat.{ℕ, zero, suc, _+_, _≤_, _<_}
 use native.Mathlib.Omega.{arith}
 use lib.ListN.{length, getD, take, set}
 use Rattle.std.specs.Orderings.{Decides}
-use Rattle.std.proofs.shelf.Lists.{take-more-set, take-set, getD-set-same, getD-set-other}
+use Rattle.std.proofs.shelf.Lists.{length-set, take-more-set, take-set, getD-set-same, getD-set-other}
 use Rattle.std.proofs.shelf.Ways.{eqb-tells}
 use Rattle.machine.specs.declared.closure.Closing.{Closing}
 use Rattle.machine.specs.Closing.{marks, noted, Notes, NotedMore}
@@ -54,7 +54,8 @@ note-new c n k small wide long e =
                         , (λ t. same ∙ ⊎-elim (λ h. k .marked m b .1 h) (λ h. absurd (q .1 h)) (members m .0 t)) ))
                     (eqb-tells m n)
                   ; counted = marks-set (c .seen) n (omega arith) e ∙ (let a = k .counted in omega arith)
-                  ; below = λ m h. ⊎-elim (λ q. k .below m q) (λ q. omega arith) (members m .0 h) }
+                  ; below = λ m h. ⊎-elim (λ q. k .below m q) (λ q. omega arith) (members m .0 h)
+                  ; few = omega arith; long = length-set (c .names) (c .count) n ∙ long }
            ; grows = omega arith
            ; kept = take-set (c .names) (c .count) n
            ; are = members }

@@ -32,7 +32,7 @@ with-set c s = record { set = s; names = c .names; count = c .count; seen = c .s
 module _ (c : Closing) (s : NumberSet ItemNo) (k : ℕ) (ins : Inserted (c .set .words) k (s .words)) where
   pub grown-plain : Notes c → Grown c (with-set c s)
   grown-plain n =
-      record { notes = record { marked = n .marked; counted = n .counted; below = n .below }; grows = omega arith; kept = refl; still = ins .kept }
+      record { notes = record { marked = n .marked; counted = n .counted; below = n .below; few = n .few; long = n .long }; grows = omega arith; kept = refl; still = ins .kept }
 
   pub grown-noted : (c′ : Closing) (n : ℕ) → NotedMore (with-set c s) c′ n → c′ .set ≡ s → Grown c c′
   grown-noted c′ n m e =

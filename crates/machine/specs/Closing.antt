@@ -36,6 +36,8 @@ pub record Notes (c : Closing) : Type 0 where
   pub marked : (n : ℕ) → n < 1024 → Decides (getD (c .seen) n false) (List·Memᴰ n (noted c))
   pub counted : marks (c .seen) ≡ c .count
   pub below : (n : ℕ) → List·Memᴰ n (noted c) → n < 1024
+  pub few : c .count ≤ 1024
+  pub long : length (c .names) ≡ 1024
 
 -- names were noted: those before stand where they stood, and n is the only new one
 pub record NotedMore (c c′ : Closing) (n : ℕ) : Type 0 where
@@ -76,3 +78,7 @@ pub record ToOpen (g : Grammar) (next : List ℕ) (c k : ℕ) (set : List ℕ) :
   pub chain : Chain next k rest
   pub firsts : (j : ℕ) → List·Memᴰ j rest → FirstOf g c j
   pub done : (j : ℕ) → FirstOf g c j → In set j ⊎ List·Memᴰ j rest
+
+-- the members of a kernel are items of the grammar
+abbrev pub KernelOf : Grammar → List ℕ → Type 0
+KernelOf g words = (k : ℕ) → In words k → k < item-count g
