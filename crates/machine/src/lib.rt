@@ -1,3 +1,4 @@
 //! The characteristic machine of a grammar: states are sets of items, found from the closure of the added rule.
 mod closure;
 mod items;
+mod space;
