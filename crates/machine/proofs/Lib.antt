@@ -5,3 +5,4 @@ pub mod Taking
 pub mod Opening
 pub mod Orders
 pub mod Seeding
+pub mod Gotos

@@ -14,6 +14,7 @@ use book::Summary;
 pub const NO_SYMBOL: u16 = 65535;
 
 /// For each item the symbol after its dot, and for each name a chain of the first items of its rules, which ends at 0.
+#[derive(Drop)]
 pub struct Items {
     pub words: usize,
     pub after: [u16; 4096],

@@ -10,6 +10,7 @@ use finding::space::Space;
 use table::numbers::ItemNo;
 use table::numbers::ItemNoNumber;
 use table::sets::ItemSet;
+use table::sets::NumberSetPartialEq;
 
 impl Items {
     /// The least symbol that is `from` or more and stands after a dot of the set.
@@ -41,5 +42,38 @@ impl Items {
             k = item.0 + 1;
         }
         carried
+    }
+}
+
+/// The sets of items of the grammar that a table holds.
+#[derive(Drop)]
+pub struct ItemSpace<'a> {
+    pub table: &'a [u16],
+    pub items: Items,
+}
+
+pub impl Space for ItemSpace<'_> as ItemSpaceSpace {
+    type Entry = ItemSet;
+
+    ghost Source = { List ℕ };
+
+    ghost Thing = { List ℕ };
+
+    ghost source = { λ s. s .table .now };
+
+    ghost sought = { item-search };
+
+    ghost thing = { λ _ e. members (e .words) };
+
+    ghost ready = { λ s es. Readied (s .table .now) (s .items) es };
+
+    fn next_symbol(&self, e: ItemSet, from: u16) -> Option<u16> {
+        let symbol = self.items.least_after(&e, from);
+        if symbol == NO_SYMBOL { None } else { Some(symbol) }
+    }
+
+    fn reach(&mut self, e: ItemSet, x: u16) -> Option<ItemSet> {
+        let carried = self.items.carry(&e, x);
+        Some(self.items.close(&carried))
     }
 }
