@@ -28,7 +28,7 @@ use Rattle.theory.proofs.Closure.{closure-members, goto-carried, goto-none, got
 use Rattle.machine.specs.declared.items.Items.{Items}
 use Rattle.machine.specs.Index.{follower}
 use Rattle.machine.specs.Closing.{ItemsOf, KernelOf}
-use Rattle.machine.specs.Reading.{rules-of, grammar-of, item-search, Readied, LeastAfter, CarriedOver}
+use Rattle.machine.specs.Reading.{rules-of, grammar-of, machine-search, item-search, Readied, LeastAfter, CarriedOver}
 use Rattle.machine.proofs.Indexing.{follower-at}
 use Rattle.machine.proofs.Taking.{closed-below}
 
@@ -160,13 +160,13 @@ module _ (t : List ℕ) (items : Items) (es : List (NumberSet ItemNo)) (k : ℕ)
   read = grammar-read (q .holds)
 
   pub answers-none : (from r : ℕ) → LeastAfter (items .after) (e .words) from r → r ≡ 65535 → LeastMove (item-search t) (members (e .words)) from None
-  unfolding item-search
+  unfolding machine-search
   answers-none from r least h =
       subst (λ (z : Grammar). (x : ℕ) → from ≤ x → x < symbols z → goto z (members (e .words)) x ≡ none) (sym read)
       (next-none g items (q .of) (e .words) (e .row) (q .each k e at) from r least h)
 
   pub answers-some : (from r : ℕ) → LeastAfter (items .after) (e .words) from r → (r ≡ 65535 → ⊥) → LeastMove (item-search t) (members (e .words)) from (Some r)
-  unfolding item-search
+  unfolding machine-search
   answers-some from r least h =
       let n = next-some g items (q .of) (e .words) (e .row) (q .each k e at) from r least h in
       ( n .least, n .small
@@ -176,7 +176,7 @@ module _ (t : List ℕ) (items : Items) (es : List (NumberSet ItemNo)) (k : ℕ)
 
   module _ (x : ℕ) (to : List ℕ) (goes : item-search t .step (members (e .words)) x ≡ some to) (r : NumberSet ItemNo) (c : CarriedOver (items .after) (e .words) x (r .words)) where
     goes-g : goto (q .grammar) (members (e .words)) x ≡ some to
-    unfolding item-search
+    unfolding machine-search
     goes-g = subst (λ (z : Grammar). goto z (members (e .words)) x ≡ some to) read goes
 
     pub kernel-of : KernelOf (q .grammar) (r .words)
@@ -184,7 +184,7 @@ module _ (t : List ℕ) (items : Items) (es : List (NumberSet ItemNo)) (k : ℕ)
 
     pub answers-reach : (a : NumberSet ItemNo) → ((h : Grammar) → ItemsOf h items → KernelOf h (r .words) → members (a .words) ≡ closure h (members (r .words)))
         → Reached thing thing (Readied t items) (item-search t .room) es to (Some a)
-    unfolding item-search
+    unfolding machine-search
     answers-reach a closes =
         let is : members (a .words) ≡ closure g (members (r .words)) = closes g (q .of) kernel-of in
         let that : to ≡ closure g (members (r .words)) = goes-to g items (q .of) (e .words) (e .row) (q .each k e at) x (r .words) (r .row) c to goes-g in

@@ -6,3 +6,4 @@ pub mod Opening
 pub mod Orders
 pub mod Seeding
 pub mod Gotos
+pub mod Initial

@@ -1,3 +1,4 @@
 pub mod Index
 pub mod Closing
 pub mod Reading
+pub mod Machines

@@ -27,8 +27,11 @@ abbrev pub grammar-of : List ℕ → Grammar
 grammar-of t = record { words = getD t 0 0; names = getD t 1 0; start = getD t 2 0; rules = rules-of (getD t 3 0) (drop 4 t) }
 
 -- sets of items, each leading on a symbol where goto says; every set has a place
-unfoldable pub item-search : List ℕ → Search (List ℕ)
-item-search t = record { step = goto (grammar-of t); room = λ found new. Unit {0}; symbols = symbols (grammar-of t) }
+unfoldable pub machine-search : Grammar → Search (List ℕ)
+machine-search g = record { step = goto g; room = λ found new. Unit {0}; symbols = symbols g }
+
+abbrev pub item-search : List ℕ → Search (List ℕ)
+item-search t = machine-search (grammar-of t)
 
 -- the table holds the grammar of these items, and the entries found are sets of its items
 pub record Readied (t : List ℕ) (items : Items) (es : List (NumberSet ItemNo)) : Type 0 where

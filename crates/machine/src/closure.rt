@@ -4,7 +4,7 @@ ghost use mathlib.Core.List.{List};
 ghost use Prim.Native.Nat.{ℕ, _+_, _<_, _≤_};
 ghost use Rattle.book.specs.Grammar.{Grammar};
 ghost use Rattle.table.specs.Sets.{In, members};
-ghost use Rattle.theory.specs.Closure.{Closed, closure};
+ghost use Rattle.theory.specs.Closure.{Closed, closure, initial};
 ghost use Rattle.book.specs.Tables.{Name};
 ghost use Rattle.machine.specs.Index.{FirstOf};
 ghost use Rattle.machine.specs.Closing.{ItemsOf, Notes, NotedMore, AfterDot, Within, Grown, OpenedTo, KernelOf};
@@ -113,5 +113,15 @@ impl Items {
         let mut at = self.seed(kernel);
         self.open_all(&mut at);
         at.set
+    }
+
+    /// The closure of the added rule with its dot in front.
+    pub fn initial_set(&self) -> ItemSet
+        requires { ⌜ ((g : Grammar) × ItemsOf g (now self)) ⌝ }
+        ensures { λ r. ⌜ ((g : Grammar) → ItemsOf g (now (self .entry)) → members (r .words) ≡ initial g) ⌝ }
+    {
+        let mut kernel = ItemSet::empty();
+        kernel.insert(ItemNo(0));
+        self.close(&kernel)
     }
 }
