@@ -9,13 +9,16 @@ use lib.Dec.{eqb}
 use borrow.Author.Tests.{eq-eqb, eqb-true, both-ways}
 use Rattle.std.specs.shelf.Lists.{joined}
 use Rattle.finding.specs.Numbered.{upto}
-use Rattle.theory.specs.Lists.{Ascending, Increasing, any, same}
+use Rattle.finding.proofs.Laws.{upto-has, upto-ascending}
+use Rattle.table.proofs.Orders.{in-order-none, in-order-cons, in-order-head, in-order-tail, in-order-append}
+use Rattle.table.specs.Lists.{InOrder, Ascending}
+use Rattle.theory.specs.Lists.{any, same}
 use Rattle.theory.specs.Policies.{Class}
 use Rattle.theory.specs.Policies.Class.{states, pair}
 use Rattle.theory.specs.Unfolding.{Node, node}
 use Rattle.theory.specs.Flattening.{JumpLess}
 use Rattle.theory.specs.Executable.{same-class, same-node, same-pair, pairs, jumps-among}
-use Rattle.theory.proofs.Lists.{and-is, and-only, keep-mem, mem-keep, any-mem, mem-any, same-equal, all-mem, all-from-mem, ascending-append, ascending-keep, mem-upto, upto-increasing}
+use Rattle.theory.proofs.Lists.{and-is, and-only, keep-mem, mem-keep, any-mem, mem-any, same-equal, in-order-keep}
 use Rattle.theory.proofs.Searching.{Tells}
 
 -- ── tests of equality ──
@@ -75,31 +78,31 @@ joined-only f (x ∷ xs) m =
 pairs-mem : (ps ts : List ℕ) {p t : ℕ} → List·Memᴰ p ps → List·Memᴰ t ts → List·Memᴰ (p, t) (pairs ps ts)
 pairs-mem ps ts {p} {t} m k = joined-mem (λ p. map (λ t. (p, t)) ts) ps m (Memᴰ·map (λ t. (p, t)) k)
 
-row-ascends : (p : ℕ) (ts : List ℕ) → Increasing ts → Ascending JumpLess (map (λ t. (p, t)) ts)
-row-ascends p [] h = tt
-row-ascends p (t ∷ ts) h = (
-  all-from-mem (JumpLess (p, t)) (map (λ t. (p, t)) ts)
-      (λ j m. let (s, k, e) = Memᴰ·of-map (λ (t : ℕ). (p, t)) ts m in
-      inr (ap (λ (w : ℕ × ℕ). w .0) e, (let l = all-mem (λ y. t < y) ts (h .0) k in let q : s ≡ j .1 = ap (λ (w : ℕ × ℕ). w .1) e in omega arith))),
-  row-ascends p ts (h .1),
-)
+row-in-order : (p : ℕ) (ts : List ℕ) → Ascending ts → InOrder JumpLess (map (λ t. (p, t)) ts)
+row-in-order p [] h = in-order-none JumpLess
+row-in-order p (t ∷ ts) h =
+    in-order-cons JumpLess (p, t) (map (λ t. (p, t)) ts)
+    (λ j m.
+    let (s, k, e) = Memᴰ·of-map (λ (t : ℕ). (p, t)) ts m in
+    inr (ap (λ (w : ℕ × ℕ). w .0) e, (let l = in-order-head _<_ t ts h s k in let q : s ≡ j .1 = ap (λ (w : ℕ × ℕ). w .1) e in omega arith)))
+    (row-in-order p ts (in-order-tail _<_ t ts h))
 
-pairs-ascend : (ps ts : List ℕ) → Increasing ps → Increasing ts → Ascending JumpLess (pairs ps ts)
-pairs-ascend [] ts h k = tt
-pairs-ascend (p ∷ ps) ts h k =
-    ascending-append JumpLess (map (λ t. (p, t)) ts) (pairs ps ts) (row-ascends p ts k) (pairs-ascend ps ts (h .1) k)
+pairs-in-order : (ps ts : List ℕ) → Ascending ps → Ascending ts → InOrder JumpLess (pairs ps ts)
+pairs-in-order [] ts h k = in-order-none JumpLess
+pairs-in-order (p ∷ ps) ts h k =
+    in-order-append JumpLess (map (λ t. (p, t)) ts) (pairs ps ts) (row-in-order p ts k) (pairs-in-order ps ts (in-order-tail _<_ p ps h) k)
     (λ a b m n.
     let (s, i, e) = Memᴰ·of-map (λ (t : ℕ). (p, t)) ts m in
     let (q, j, w) = joined-only (λ p. map (λ t. (p, t)) ts) ps n in
     let (r, o, f) = Memᴰ·of-map (λ (t : ℕ). (q, t)) ts w in
-    let l = all-mem (λ y. p < y) ps (h .0) j in
+    let l = in-order-head _<_ p ps h q j in
     let x : p ≡ a .0 = ap (λ (w : ℕ × ℕ). w .0) e in
     let y : q ≡ b .0 = ap (λ (w : ℕ × ℕ). w .0) f in
     inl (omega arith))
 
-pub jumps-among-ascend : (given : List (ℕ × ℕ)) (n : ℕ) → Ascending JumpLess (jumps-among given n)
-jumps-among-ascend given n =
-    ascending-keep (λ (j : ℕ × ℕ). any (same-pair j) given) JumpLess (pairs (upto n) (upto n)) (pairs-ascend (upto n) (upto n) (upto-increasing n) (upto-increasing n))
+pub jumps-among-rise : (given : List (ℕ × ℕ)) (n : ℕ) → InOrder JumpLess (jumps-among given n)
+jumps-among-rise given n =
+    in-order-keep (λ (j : ℕ × ℕ). any (same-pair j) given) JumpLess (pairs (upto n) (upto n)) (pairs-in-order (upto n) (upto n) (upto-ascending n) (upto-ascending n))
 
 pub jumps-among-only : (given : List (ℕ × ℕ)) (n : ℕ) {j : ℕ × ℕ} → List·Memᴰ j (jumps-among given n) → List·Memᴰ j given
 jumps-among-only given n {j} m =
@@ -109,4 +112,4 @@ jumps-among-only given n {j} m =
 
 pub jumps-among-mem : (given : List (ℕ × ℕ)) (n : ℕ) {p t : ℕ} → p < n → t < n → List·Memᴰ (p, t) given → List·Memᴰ (p, t) (jumps-among given n)
 jumps-among-mem given n {p} {t} h k m =
-    mem-keep (λ (j : ℕ × ℕ). any (same-pair j) given) (pairs (upto n) (upto n)) (pairs-mem (upto n) (upto n) (mem-upto n h) (mem-upto n k)) (mem-any (same-pair (p, t)) given m (pair-refl (p, t)))
+    mem-keep (λ (j : ℕ × ℕ). any (same-pair j) given) (pairs (upto n) (upto n)) (pairs-mem (upto n) (upto n) (upto-has n _ h) (upto-has n _ k)) (mem-any (same-pair (p, t)) given m (pair-refl (p, t)))

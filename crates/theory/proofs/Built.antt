@@ -8,6 +8,8 @@ use lib.ListN.{length}
 use Rattle.std.specs.shelf.Lists.{joined}
 use Rattle.book.specs.Grammar.{Rule, rule, Grammar, symbols, Rewrites}
 use Rattle.finding.specs.Numbered.{Arrow, upto}
+use Rattle.finding.proofs.Laws.{upto-has}
+use Rattle.table.proofs.Lists.{stands-below}
 use Rattle.theory.specs.Lists.{same}
 use Rattle.theory.specs.Items.{Sound}
 use Rattle.theory.specs.Closure.{goto, initial}
@@ -17,13 +19,13 @@ use Rattle.theory.specs.Unfolding.{along, Node, node, onward, Unfolded, FinalN
 use Rattle.theory.specs.Flattening.{Acceptor, word-moves, Leads, Jump, FlattenedFrom, Flattened}
 use Rattle.theory.specs.Flattening.Leads.{here, on}
 use Rattle.theory.specs.Executable.{Search, numbered, same-node, walk, leap, leaps, jumps-among, Built, finish, unfold-from, build}
-use Rattle.theory.proofs.Lists.{some-one, none-some, mem-upto, at-below}
-use Rattle.theory.proofs.Numbering.{entry-left, move-made, move-one}
+use Rattle.theory.proofs.Lists.{some-one, none-some}
+use Rattle.theory.proofs.Numbering.{entry-left, move-made, move-one, moves-rise}
 use Rattle.theory.proofs.Unfolding.{along-mem, along-is, final-node}
 use Rattle.theory.proofs.Flattening.{over-completes}
-use Rattle.theory.proofs.Arcs.{moves-ascend, word-moves-are, word-moves-ascend}
+use Rattle.theory.proofs.Arcs.{word-moves-are, word-moves-rise}
 use Rattle.theory.proofs.Searching.{computed}
-use Rattle.theory.proofs.Building.{same-tells, node-tells, joined-mem, joined-only, jumps-among-ascend, jumps-among-only, jumps-among-mem}
+use Rattle.theory.proofs.Building.{same-tells, node-tells, joined-mem, joined-only, jumps-among-rise, jumps-among-only, jumps-among-mem}
 
 -- ── walks ──
 
@@ -76,19 +78,19 @@ module _ (moves : List Arrow) (one : (q x p r : ℕ) → List·Memᴰ (q, x, p) 
 
   leaps-mem : (rules : List Rule) (n q : ℕ) (r : Rule) {p to : ℕ} → q < n → List·Memᴰ r rules → Leads moves q (r .right) p → List·Memᴰ (q, r .left, to) moves → List·Memᴰ (p, to) (leaps moves rules n)
   leaps-mem rules n q r {p} {to} b m l v =
-      joined-mem (λ q. joined (leap moves q) rules) (upto n) (mem-upto n b)
+      joined-mem (λ q. joined (leap moves q) rules) (upto n) (upto-has n _ b)
       (joined-mem (leap moves q) rules m (subst (List·Memᴰ (p, to)) (sym (leap-is q r (leads-walk l) (along-is moves one v))) (List·Memᴰ·head refl)))
 
 module _ (g : Grammar) (u : Sound g) {sets : List (List ℕ)} {moves : List Arrow} (mt : Machine g sets moves) (m : Meaning)
     {nodes : List Node} {arrows : List Arrow} (un : Unfolded m moves (symbols g) nodes arrows) where
   one : (q x p r : ℕ) → List·Memᴰ (q, x, p) arrows → List·Memᴰ (q, x, r) arrows → p ≡ r
-  one q x p r v w = move-one un v w
+  one q x p r v w = move-one (symbols g) un v w
 
   left-below : {q x p : ℕ} → List·Memᴰ (q, x, p) arrows → q < length nodes
-  left-below {q} v = let (n, e) = entry-left un v in at-below nodes q e
+  left-below {q} v = let (n, e) = entry-left (symbols g) un v in stands-below nodes q _ e
 
   right-below : {q x p : ℕ} → List·Memᴰ (q, x, p) arrows → p < length nodes
-  right-below {q} {x} {p} v = let (n, e) = entry-left un v in at-below nodes p (move-made un e v .place)
+  right-below {q} {x} {p} v = let (n, e) = entry-left (symbols g) un v in stands-below nodes p _ (move-made (symbols g) un e v .place)
 
   pub jumps-are : (p to : ℕ) → List·Memᴰ (p, to) (jumps-among (leaps arrows (g .rules) (length nodes)) (length nodes)) ↔ Jump g sets nodes arrows p to
   jumps-are p to = (
@@ -100,7 +102,7 @@ module _ (g : Grammar) (u : Sound g) {sets : List (List ℕ)} {moves : List Arro
         let h : Rewrites g (r .left) (r .right) = (u .lefts-named r w, w) in
         record { left = r .left; side = r .right; from = q; rewrites = h; item = over-completes g u mt m un h l v; leads = l; over = v }),
     (λ (j : Jump g sets nodes arrows p to).
-        jumps-among-mem (leaps arrows (g .rules) (length nodes)) (length nodes) (at-below nodes p (j .item .at)) (right-below (j .over))
+        jumps-among-mem (leaps arrows (g .rules) (length nodes)) (length nodes) (stands-below nodes p _ (j .item .at)) (right-below (j .over))
         (leaps-mem arrows one (g .rules) (length nodes) (j .from) (rule (j .left) (j .side)) (left-below (j .over)) (j .rewrites .1) (j .leads) (j .over))),
   )
 
@@ -142,9 +144,9 @@ finish-is g u m s t mt un {b} h = cases (along (t .moves) 0 (g .start)) refl
             nodes-are = refl;
             final-is = final-along g u mt m un e;
             arcs-are = word-moves-are (g .words) (t .moves);
-            arcs-rise = word-moves-ascend (g .words) (t .moves) (moves-ascend (symbols g) un);
+            arcs-rise = word-moves-rise (g .words) (t .moves) (moves-rise (symbols g) un);
             jumps-are = jumps-are g u mt m un;
-            jumps-rise = jumps-among-ascend (leaps (t .moves) (g .rules) (length (t .entries))) (length (t .entries));
+            jumps-rise = jumps-among-rise (leaps (t .moves) (g .rules) (length (t .entries))) (length (t .entries));
           };
         })
 

@@ -10,13 +10,17 @@ use lib.ListN.{length, getElem?}
 use borrow.Author.Tests.{eq-eqb, eqb-true}
 use Rattle.book.specs.Grammar.{Grammar}
 use Rattle.finding.specs.Numbered.{upto}
-use Rattle.theory.specs.Lists.{Increasing, and, keep, Reach}
+use Rattle.finding.proofs.Laws.{upto-has, upto-below, upto-ascending}
+use Rattle.table.proofs.Lists.{stands-below}
+use Rattle.table.proofs.Orders.{ascending-same}
+use Rattle.table.specs.Lists.{Ascending}
+use Rattle.theory.specs.Lists.{and, keep, Reach}
 use Rattle.theory.specs.Lists.Reach.{base, step}
 use Rattle.theory.specs.Items.{Item, item, items, item-count, Dotted}
 use Rattle.theory.specs.Closure.{Closed, begins-with, is-empty, follows, opens, closure, carried, goto, Carried}
 use Rattle.theory.specs.Closure.Closed.{kernel, opened}
-use Rattle.theory.proofs.Lists.{and-only, some-one, none-some, keep-mem, mem-keep, increasing-unique, mem-upto, upto-mem, upto-increasing, at-below}
-use Rattle.theory.proofs.Saturated.{saturated, saturate-increasing}
+use Rattle.theory.proofs.Lists.{and-only, some-one, none-some, keep-mem, mem-keep}
+use Rattle.theory.proofs.Saturated.{saturated, saturate-ascending}
 use Rattle.theory.proofs.Items.{items-length, dotted-below}
 
 -- ── the tests ──
@@ -80,10 +84,10 @@ module _ (all : List Item) where
 
 module _ (g : Grammar) where
   below-upto : (k : ℕ) → k < item-count g → List·Memᴰ k (upto (length (items g)))
-  below-upto k h = mem-upto (length (items g)) (let n = items-length g in omega arith)
+  below-upto k h = upto-has (length (items g)) _ (let n = items-length g in omega arith)
 
   reach-closed : {K : List ℕ} {k : ℕ} → Reach (upto (length (items g))) (opens (items g)) K k → Closed g K k
-  reach-closed (base u m) = kernel m (let h = upto-mem (length (items g)) u in let n = items-length g in omega arith)
+  reach-closed (base u m) = kernel m (let h = upto-below (length (items g)) _ u in let n = items-length g in omega arith)
   reach-closed (step {j = j} {k = k} r u e) = let o = opens-only (items g) j k e in opened (reach-closed r) (o .after .at) (o .first)
 
   closed-reach : {K : List ℕ} {k : ℕ} → Closed g K k → Reach (upto (length (items g))) (opens (items g)) K k
@@ -92,7 +96,7 @@ module _ (g : Grammar) where
       step (closed-reach i) (below-upto k (dotted-below g k e)) (opens-is (items g) j k a c l r s d e)
 
   inside : (j k : ℕ) → opens (items g) j k ≡ true → List·Memᴰ j (upto (length (items g)))
-  inside j k e = let o = opens-only (items g) j k e in mem-upto (length (items g)) (at-below (items g) j (o .after .at))
+  inside j k e = let o = opens-only (items g) j k e in upto-has (length (items g)) _ (stands-below (items g) j _ (o .after .at))
 
   -- the closure has just the closed items
   pub closure-members : (K : List ℕ) (k : ℕ) → List·Memᴰ k (closure g K) ↔ Closed g K k
@@ -100,14 +104,13 @@ module _ (g : Grammar) where
       let s = saturated (upto (length (items g))) (opens (items g)) inside K k in
       ((λ m. reach-closed (s .0 m)), (λ c. s .1 (closed-reach c)))
 
-  pub closure-increasing : (K : List ℕ) → Increasing (closure g K)
-  closure-increasing K = saturate-increasing (upto (length (items g))) (opens (items g)) K (upto-increasing (length (items g)))
+  pub closure-ascending : (K : List ℕ) → Ascending (closure g K)
+  closure-ascending K = saturate-ascending (upto (length (items g))) (opens (items g)) K (upto-ascending (length (items g)))
 
-  -- an increasing list of just the closed items is the closure
-  pub closure-unique : (K set : List ℕ) → Increasing set → ((k : ℕ) → List·Memᴰ k set ↔ Closed g K k) → set ≡ closure g K
+  -- an ascending list of just the closed items is the closure
+  pub closure-unique : (K set : List ℕ) → Ascending set → ((k : ℕ) → List·Memᴰ k set ↔ Closed g K k) → set ≡ closure g K
   closure-unique K set h m =
-      increasing-unique set (closure g K) h (closure-increasing K)
-      (λ k. ((λ i. closure-members K k .1 (m k .0 i)), (λ i. m k .1 (closure-members K k .0 i))))
+      ascending-same set (closure g K) h (closure-ascending K) (λ k i. closure-members K k .1 (m k .0 i)) (λ k i. m k .1 (closure-members K k .0 i))
 
   pub closed-map : {K L : List ℕ} → ((k : ℕ) → List·Memᴰ k K → List·Memᴰ k L) → {k : ℕ} → Closed g K k → Closed g L k
   closed-map f (kernel m h) = kernel (f _ m) h
@@ -116,11 +119,11 @@ module _ (g : Grammar) where
   -- the same kernel has the same closure
   pub closure-same : (K L : List ℕ) → ((k : ℕ) → List·Memᴰ k K ↔ List·Memᴰ k L) → closure g K ≡ closure g L
   closure-same K L s =
-      closure-unique L (closure g K) (closure-increasing K)
+      closure-unique L (closure g K) (closure-ascending K)
       (λ k. ((λ m. closed-map (λ j i. s j .0 i) (closure-members K k .0 m)), (λ c. closure-members K k .1 (closed-map (λ j i. s j .1 i) c))))
 
   -- a set between the kernel and the closure that nothing opens further is the closure
-  pub closure-from-closed : (K set : List ℕ) → Increasing set → ((k : ℕ) → List·Memᴰ k K → k < item-count g → List·Memᴰ k set) → ((k : ℕ) → List·Memᴰ k set → Closed g K k)
+  pub closure-from-closed : (K set : List ℕ) → Ascending set → ((k : ℕ) → List·Memᴰ k K → k < item-count g → List·Memᴰ k set) → ((k : ℕ) → List·Memᴰ k set → Closed g K k)
       → ((j k a c : ℕ) (l r s : List ℕ) → List·Memᴰ j set → Dotted g j a l (c ∷ r) → Dotted g k c [] s → List·Memᴰ k set) → set ≡ closure g K
   closure-from-closed K set h start within open-in = closure-unique K set h (λ k. (within k, holds))
     where

@@ -86,7 +86,7 @@ module _ (g : Grammar) (u : Sound g) {states : List (List ℕ)} {moves : List Ar
       finer (s .stack) (t .stack) (s .state) (s .fine) (s .coarse) (t .coarse) (s .fine-stack)
       (subst (λ (w : Node). Stacked moves m (t .stack) (w .state) (w .class)) e (t .fine-stack))
       (s .coarse-stack) (subst (λ i. Stacked moves n (t .stack) i (t .coarse)) q (t .coarse-stack)) in
-      place-one nn (s .coarse-at) (t .coarse-at ∙ (λ i. some (node (q i) (sym k i))))
+      place-one (symbols g) nn (s .coarse-at) (t .coarse-at ∙ (λ i. some (node (q i) (sym k i))))
 
   follows : {q p c x : ℕ} → Shared q c → List·Memᴰ (q, x, p) ms → (d : ℕ) × List·Memᴰ (c, x, d) vs × Shared p d
   follows {x = x} s v =

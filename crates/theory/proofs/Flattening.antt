@@ -6,14 +6,17 @@ use native.Mathlib.Omega.{arith}
 use Prim.Native.Nat.{ℕ}
 use Rattle.book.specs.Grammar.{Grammar, symbols, Rewrites}
 use Rattle.finding.specs.Numbered.{Arrow}
+use Rattle.finding.specs.Laws.{Rises}
+use Rattle.table.proofs.Lists.{mem-at}
+use Rattle.table.proofs.Orders.{in-order-same}
 use Rattle.theory.specs.Items.{Sound, Numbers}
 use Rattle.theory.specs.Items.Numbers.{added, ruled}
 use Rattle.theory.specs.Machine.{Machine, HasItem}
 use Rattle.theory.specs.Policies.{Meaning}
 use Rattle.theory.specs.Unfolding.{Node, Unfolded, NodeHolds, FinalNode}
-use Rattle.theory.specs.Flattening.{Acceptor, Leads, Jump, ForwardJump, ArrowLess, JumpLess, JumpLaws, FlattenedFrom}
+use Rattle.theory.specs.Flattening.{Acceptor, Leads, Jump, ForwardJump, JumpLess, JumpLaws, FlattenedFrom}
 use Rattle.theory.specs.Flattening.Leads.{here, on}
-use Rattle.theory.proofs.Lists.{ascending-unique, at-mem, snoc-not-nil}
+use Rattle.theory.proofs.Lists.{snoc-not-nil}
 use Rattle.theory.proofs.Items.{dotted-only, item-one}
 use Rattle.theory.proofs.States.{first-moves, state-closed}
 use Rattle.theory.proofs.Graphs.{Flat, Closes, Over}
@@ -30,7 +33,7 @@ holds-final g u {states} h = record { its = h .its; at = h .at; final = subst (H
   where
     number : Numbers g (h .holds .number) (symbols g) (g .start ∷ []) [] → h .holds .number ≡ 1
     number (added n e k) = n
-    number (ruled i r e n q k) = let l = u .lefts-known r (at-mem (g .rules) i e) in absurd (omega arith)
+    number (ruled i r e n q k) = let l = u .lefts-known r (mem-at (g .rules) i _ e) in absurd (omega arith)
 
 -- ── jumps found going forward ──
 
@@ -107,7 +110,7 @@ module _ (g : Grammar) (u : Sound g) {states : List (List ℕ)} {moves : List Ar
 
 -- ── one acceptor ──
 
-arrow-apart : (a b : Arrow) → ArrowLess a b → ArrowLess b a → ⊥
+arrow-apart : (a b : Arrow) → Rises a b → Rises b a → ⊥
 arrow-apart a b h k = omega arith
 
 jump-apart : (a b : ℕ × ℕ) → JumpLess a b → JumpLess b a → ⊥
@@ -121,11 +124,13 @@ flat-unique g u mt m un {e} {f} h k =
     let count : e .nodes ≡ f .nodes = h .nodes-are ∙ sym (k .nodes-are) in
     let final : e .final ≡ f .final = final-node-one g u mt m un (e .final) (f .final) (h .final-is) (k .final-is) in
     let arcs : e .arcs ≡ f .arcs =
-    ascending-unique arrow-apart (e .arcs) (f .arcs) (h .arcs-rise) (k .arcs-rise)
-    (λ a. ((λ i. k .arcs-are (a .0) (a .1) (a .2) .1 (h .arcs-are (a .0) (a .1) (a .2) .0 i)), (λ i. h .arcs-are (a .0) (a .1) (a .2) .1 (k .arcs-are (a .0) (a .1) (a .2) .0 i)))) in
+    in-order-same Rises arrow-apart (e .arcs) (f .arcs) (h .arcs-rise) (k .arcs-rise)
+    (λ a i. k .arcs-are (a .0) (a .1) (a .2) .1 (h .arcs-are (a .0) (a .1) (a .2) .0 i))
+    (λ a i. h .arcs-are (a .0) (a .1) (a .2) .1 (k .arcs-are (a .0) (a .1) (a .2) .0 i)) in
     let jumps : e .jumps ≡ f .jumps =
-    ascending-unique jump-apart (e .jumps) (f .jumps) (h .jumps-rise) (k .jumps-rise)
-    (λ a. ((λ i. k .jumps-are (a .0) (a .1) .1 (h .jumps-are (a .0) (a .1) .0 i)), (λ i. h .jumps-are (a .0) (a .1) .1 (k .jumps-are (a .0) (a .1) .0 i)))) in
+    in-order-same JumpLess jump-apart (e .jumps) (f .jumps) (h .jumps-rise) (k .jumps-rise)
+    (λ a i. k .jumps-are (a .0) (a .1) .1 (h .jumps-are (a .0) (a .1) .0 i))
+    (λ a i. h .jumps-are (a .0) (a .1) .1 (k .jumps-are (a .0) (a .1) .0 i)) in
     λ i. record { words = words i; nodes = count i; final = final i; arcs = arcs i; jumps = jumps i }
 
 pub jump-laws : (g : Grammar) → Sound g → {states : List (List ℕ)} {moves : List Arrow} → Machine g states moves → (m : Meaning) {nodes : List Node} {arrows : List Arrow} → Unfolded m moves (symbols g) nodes arrows → JumpLaws g states nodes arrows

@@ -10,9 +10,10 @@ use Rattle.std.specs.shelf.Lists.{joined}
 use Rattle.std.proofs.shelf.Lists.{length-append}
 use Rattle.book.specs.Grammar.{Rule, rule, Grammar, symbols, Rewrites}
 use Rattle.book.specs.Tables.{Fit, FitRule, dots as rules-count}
+use Rattle.table.proofs.Lists.{stands-below, stands-some, stands-left, mem-at, at-mem}
 use Rattle.theory.specs.Items.{Item, item, dots, rule-items, items, Dotted, item-count, first-item, symbol-after, Sound, Numbers}
 use Rattle.theory.specs.Items.Numbers.{added, ruled}
-use Rattle.theory.proofs.Lists.{some-one, none-some, all-mem, at-left, at-right, Later, at-split, at-below, below-at, at-mem, mem-at}
+use Rattle.theory.proofs.Lists.{some-one, none-some, all-mem, at-right, Later, at-split}
 
 -- ── one rule ──
 
@@ -92,7 +93,7 @@ joined-at [] i r m s h e = absurd (none-some refl h)
 joined-at (q ∷ rs) zero r m s h e =
     let p : q ≡ r = some-one refl h in
     let n : rules-count [] + length m ≡ length m = omega arith in
-    ap (getElem? (joined rule-items (q ∷ rs))) n ∙ at-left (rule-items q) (joined rule-items rs) (length m) (ap (λ k. getElem? (rule-items k) (length m)) p ∙ rule-at r m s e)
+    ap (getElem? (joined rule-items (q ∷ rs))) n ∙ stands-left (rule-items q) (joined rule-items rs) _ (length m) (ap (λ k. getElem? (rule-items k) (length m)) p ∙ rule-at r m s e)
 joined-at (q ∷ rs) (suc i) r m s h e =
     let d = dots-length (q .left) [] (q .right) in
     let n : rules-count (take (suc i) (q ∷ rs)) + length m ≡ length (rule-items q) + (rules-count (take i rs) + length m) = omega arith in
@@ -120,7 +121,7 @@ pub dotted-at : (g : Grammar) (k : ℕ) {a : ℕ} {m s : List ℕ} → Numbers g
 dotted-at g k {a} {m} {s} (added n e h) =
     let added-items = dots (symbols g) [] (g .start ∷ []) in
     ap (getElem? (items g)) n
-    ∙ at-left added-items (joined rule-items (g .rules)) (length m)
+    ∙ stands-left added-items (joined rule-items (g .rules)) _ (length m)
     (ap (λ r. getElem? (dots (symbols g) [] r) (length m)) (sym h) ∙ dots-at (symbols g) [] m s ∙ ap (λ b. some (item b m s)) (sym e))
 dotted-at g k {a} {m} {s} (ruled i r p n e h) =
     let added-items = dots (symbols g) [] (g .start ∷ []) in
@@ -129,10 +130,10 @@ dotted-at g k {a} {m} {s} (ruled i r p n e h) =
     ∙ joined-at (g .rules) i r m s p h ∙ ap (λ b. some (item b m s)) (sym e)
 
 pub dotted-below : (g : Grammar) (k : ℕ) {a : ℕ} {m s : List ℕ} → Dotted g k a m s → k < item-count g
-dotted-below g k e = let h = at-below (items g) k e in let n = items-length g in omega arith
+dotted-below g k e = let h = stands-below (items g) k _ e in let n = items-length g in omega arith
 
 pub below-dotted : (g : Grammar) (k : ℕ) → k < item-count g → (a : ℕ) × (m : List ℕ) × (s : List ℕ) × Dotted g k a m s
-below-dotted g k h = let (i, e) = below-at (items g) k (let n = items-length g in omega arith) in (i .left, i .before, i .after, e)
+below-dotted g k h = let (i, e) = stands-some (items g) k (let n = items-length g in omega arith) in (i .left, i .before, i .after, e)
 
 -- the next item has the dot carried over
 pub dotted-next : (g : Grammar) (k : ℕ) {a x : ℕ} {l r : List ℕ} → Dotted g k a l (x ∷ r) → Dotted g (suc k) a (l ++ (x ∷ [])) r
@@ -144,7 +145,7 @@ dotted-next g k {a} {x} {l} {r} e = dotted-at g (suc k) (next (dotted-only g k e
 
 -- the first item of a rule
 pub rule-first : (g : Grammar) {a : ℕ} {s : List ℕ} → List·Memᴰ (rule a s) (g .rules) → (k : ℕ) × Dotted g k a [] s
-rule-first g {a} {s} m = let (i, e) = mem-at (g .rules) m in (first-item g i + length {A = ℕ} [], dotted-at g _ (ruled i (rule a s) e refl refl refl))
+rule-first g {a} {s} m = let (i, e) = at-mem (g .rules) _ m in (first-item g i + length {A = ℕ} [], dotted-at g _ (ruled i (rule a s) e refl refl refl))
 
 -- an item belongs to the added rule or to a rule of the grammar
 pub data Belongs (g : Grammar) (a : ℕ) (m s : List ℕ) : Type 0 where
@@ -156,7 +157,7 @@ belongs g k {a} {m} {s} e = cases (dotted-only g k e)
   where
     cases : Numbers g k a m s → Belongs g a m s
     cases (added n p h) = to-added p h
-    cases (ruled i r p n f h) = to-rule (subst (λ (q : Rule). List·Memᴰ q (g .rules)) (λ j. rule (sym f j) (sym h j)) (at-mem (g .rules) i p))
+    cases (ruled i r p n f h) = to-rule (subst (λ (q : Rule). List·Memᴰ q (g .rules)) (λ j. rule (sym f j) (sym h j)) (mem-at (g .rules) i _ p))
 
 -- every symbol after a dot is a symbol of the grammar
 pub after-known : (g : Grammar) → Sound g → (k : ℕ) {a c : ℕ} {l r : List ℕ} → Dotted g k a l (c ∷ r) → c < symbols g

@@ -1,18 +1,18 @@
 -- Lists of any element: tests, places, strictly ascending lists.
 use mathlib.Core.Path.{_≡_, refl, sym, ap, subst, _∙_}
-use mathlib.Core.Logic.{_↔_, _⊎_, inl, inr, ⊎-elim}
+use mathlib.Core.Logic.{_⊎_, inl, inr, ⊎-elim}
 use mathlib.Core.Bool.{Bool, true, false}
 use mathlib.Core.Option.{Option, none, some}
-use mathlib.Core.List.{List, [], _∷_, _++_, List·Memᴰ, List·Memᴰ·head, List·Memᴰ·tail, List·Memᴰ·not-nil, List·Memᴰ·cases-cons, List·Memᴰ·append-cases, Memᴰ·append-left, Memᴰ·append-right}
+use mathlib.Core.List.{List, [], _∷_, _++_, List·Memᴰ, List·Memᴰ·head, List·Memᴰ·tail, List·Memᴰ·not-nil, List·Memᴰ·cases-cons}
 use native.Mathlib.Omega.{arith}
-use Prim.Native.Nat.{ℕ, zero, suc, _+_, _≤_, _<_}
+use Prim.Native.Nat.{ℕ, zero, suc, _+_, _≤_}
 use lib.Dec.{eqb}
 use lib.ListN.{length, getElem?}
 use borrow.Author.Tests.{eqb-true}
 use Rattle.std.specs.shelf.Lists.{All}
-use Rattle.std.proofs.shelf.Elements.{all-append}
-use Rattle.finding.specs.Numbered.{upto}
-use Rattle.theory.specs.Lists.{Ascending, Increasing, and, or, keep, any, every, same}
+use Rattle.table.proofs.Orders.{in-order-none, in-order-cons, in-order-head, in-order-tail}
+use Rattle.table.specs.Lists.{InOrder}
+use Rattle.theory.specs.Lists.{and, or, keep, any, every, same}
 
 -- ── tests ──
 
@@ -97,16 +97,12 @@ module _ {A : Type 0} (p : A → Bool) where
       let h = keep-length xs in
       ⊎-elim (λ e. rw (keep-take x xs e) (omega arith)) (λ e. rw (keep-leave x xs e) (omega arith)) (true-or-false (p x))
 
-  pub all-keep : (P : A → Type 0) (xs : List A) → All P xs → All P (keep p xs)
-  all-keep P [] h = tt
-  all-keep P (x ∷ xs) h =
-      ⊎-elim (λ e. subst (All P) (sym (keep-take x xs e)) (h .0, all-keep P xs (h .1))) (λ e. subst (All P) (sym (keep-leave x xs e)) (all-keep P xs (h .1))) (true-or-false (p x))
-
-  pub ascending-keep : (less : A → A → Type 0) (xs : List A) → Ascending less xs → Ascending less (keep p xs)
-  ascending-keep less [] h = tt
-  ascending-keep less (x ∷ xs) h =
-      ⊎-elim (λ e. subst (Ascending less) (sym (keep-take x xs e)) (all-keep (less x) xs (h .0), ascending-keep less xs (h .1)))
-      (λ e. subst (Ascending less) (sym (keep-leave x xs e)) (ascending-keep less xs (h .1)))
+  pub in-order-keep : (R : A → A → Type 0) (xs : List A) → InOrder R xs → InOrder R (keep p xs)
+  in-order-keep R [] h = in-order-none R
+  in-order-keep R (x ∷ xs) h =
+      ⊎-elim
+      (λ e. subst (InOrder R) (sym (keep-take x xs e)) (in-order-cons R x (keep p xs) (λ u m. in-order-head R x xs h u (keep-mem xs m .0)) (in-order-keep R xs (in-order-tail R x xs h))))
+      (λ e. subst (InOrder R) (sym (keep-leave x xs e)) (in-order-keep R xs (in-order-tail R x xs h)))
       (true-or-false (p x))
 
 pub same-equal : (xs ys : List ℕ) → same xs ys ≡ true → xs ≡ ys
@@ -133,76 +129,9 @@ pub snoc-not-nil : {A : Type 0} (xs : List A) (x : A) → xs ++ (x ∷ []) ≡ [
 snoc-not-nil [] x e = let z : _≡_ {A = ℕ} 0 1 = cc in omega arith
 snoc-not-nil (y ∷ ys) x e = let z : _≡_ {A = ℕ} 0 1 = cc in omega arith
 
--- ── strictly ascending lists ──
-
-pub ascending-push : {A : Type 0} (less : A → A → Type 0) (xs : List A) (x : A) → Ascending less xs → All (λ y. less y x) xs → Ascending less (xs ++ (x ∷ []))
-ascending-push less [] x h k = (tt, tt)
-ascending-push less (y ∷ ys) x h k = (pushed ys (h .0), ascending-push less ys x (h .1) (k .1))
-  where
-    pushed : (zs : List _) → All (less y) zs → All (less y) (zs ++ (x ∷ []))
-    pushed [] a = (k .0, tt)
-    pushed (z ∷ zs) a = (a .0, pushed zs (a .1))
-
-pub ascending-append : {A : Type 0} (less : A → A → Type 0) (xs ys : List A) → Ascending less xs → Ascending less ys → ((x y : A) → List·Memᴰ x xs → List·Memᴰ y ys → less x y) → Ascending less (xs ++ ys)
-ascending-append less [] ys h k f = k
-ascending-append less (x ∷ xs) ys h k f = (
-  all-append (less x) xs ys (h .0) (all-from-mem (less x) ys (λ y m. f x y (List·Memᴰ·head refl) m)),
-  ascending-append less xs ys (h .1) k (λ a b m n. f a b (List·Memᴰ·tail m) n),
-)
-
--- two ascending lists with the same elements are equal
-module _ {A : Type 0} {less : A → A → Type 0} (apart : (x y : A) → less x y → less y x → ⊥) where
-  same-head : (x y : A) (xs ys : List A) → Ascending less (x ∷ xs) → Ascending less (y ∷ ys) → List·Memᴰ x (y ∷ ys) → List·Memᴰ y (x ∷ xs) → x ≡ y
-  same-head x y xs ys h k m n =
-      ⊎-elim (λ e. e) (λ u. ⊎-elim (λ e. sym e) (λ v. absurd (apart x y (all-mem (less x) xs (h .0) v) (all-mem (less y) ys (k .0) u))) (List·Memᴰ·cases-cons n)) (List·Memᴰ·cases-cons m)
-
-  tail-mem : (x y : A) (xs ys : List A) → Ascending less (x ∷ xs) → x ≡ y → {z : A} → List·Memᴰ z xs → List·Memᴰ z (y ∷ ys) → List·Memᴰ z ys
-  tail-mem x y xs ys h e {z} m n =
-      ⊎-elim (λ q. let l : less x z = all-mem (less x) xs (h .0) m in let w : z ≡ x = q ∙ sym e in let l′ : less x x = subst (less x) w l in absurd (apart x x l′ l′)) (λ u. u) (List·Memᴰ·cases-cons n)
-
-  pub ascending-unique : (xs ys : List A) → Ascending less xs → Ascending less ys → ((z : A) → List·Memᴰ z xs ↔ List·Memᴰ z ys) → xs ≡ ys
-  ascending-unique [] [] h k s = refl
-  ascending-unique [] (y ∷ ys) h k s = absurd (List·Memᴰ·not-nil (s y .1 (List·Memᴰ·head refl)))
-  ascending-unique (x ∷ xs) [] h k s = absurd (List·Memᴰ·not-nil (s x .0 (List·Memᴰ·head refl)))
-  ascending-unique (x ∷ xs) (y ∷ ys) h k s =
-      let e : x ≡ y = same-head x y xs ys h k (s x .0 (List·Memᴰ·head refl)) (s y .1 (List·Memᴰ·head refl)) in
-      let t = ascending-unique xs ys (h .1) (k .1)
-      (λ z. ((λ m. tail-mem x y xs ys h e m (s z .0 (List·Memᴰ·tail m))), (λ m. tail-mem y x ys xs k (sym e) m (s z .1 (List·Memᴰ·tail m))))) in
-      λ i. e i ∷ t i
-
-pub below-apart : (x y : ℕ) → x < y → y < x → ⊥
-below-apart x y h k = omega arith
-
--- a set of numbers has one list
-pub increasing-unique : (xs ys : List ℕ) → Increasing xs → Increasing ys → ((z : ℕ) → List·Memᴰ z xs ↔ List·Memᴰ z ys) → xs ≡ ys
-increasing-unique xs ys h k s = ascending-unique below-apart xs ys h k s
-
--- ── the numbers below n ──
-
-pub mem-upto : (n : ℕ) {x : ℕ} → x < n → List·Memᴰ x (upto n)
-mem-upto zero h = absurd (omega arith)
-mem-upto (suc n) {x} h = ⊎-elim (λ e. Memᴰ·append-right (upto n) (List·Memᴰ·head e)) (λ k. Memᴰ·append-left (n ∷ []) (mem-upto n k)) last
-  where
-    last : (x ≡ n) ⊎ (x < n)
-    last = grind arith
-
-pub upto-mem : (n : ℕ) {x : ℕ} → List·Memᴰ x (upto n) → x < n
-upto-mem zero m = absurd (List·Memᴰ·not-nil m)
-upto-mem (suc n) {x} m =
-    ⊎-elim (λ a. let h = upto-mem n a in omega arith) (λ b. ⊎-elim (λ e. omega arith) (λ z. absurd (List·Memᴰ·not-nil z)) (List·Memᴰ·cases-cons b)) (List·Memᴰ·append-cases (upto n) m)
-
-pub upto-increasing : (n : ℕ) → Increasing (upto n)
-upto-increasing zero = tt
-upto-increasing (suc n) = ascending-push _<_ (upto n) n (upto-increasing n) (all-from-mem (λ x. x < n) (upto n) (λ x m. upto-mem n m))
-
 -- ── places ──
 
 module _ {A : Type 0} where
-  pub at-left : (xs ys : List A) (k : ℕ) {a : A} → getElem? xs k ≡ some a → getElem? (xs ++ ys) k ≡ some a
-  at-left [] ys k e = absurd (none-some refl e)
-  at-left (x ∷ xs) ys zero e = e
-  at-left (x ∷ xs) ys (suc k) e = at-left xs ys k e
-
   pub at-right : (xs ys : List A) (k : ℕ) → getElem? (xs ++ ys) (length xs + k) ≡ getElem? ys k
   at-right [] ys k = let e : 0 + k ≡ k = omega arith in ap (getElem? ys) e
   at-right (x ∷ xs) ys k = let e : suc (length xs) + k ≡ suc (length xs + k) = omega arith in ap (getElem? (x ∷ (xs ++ ys))) e ∙ at-right xs ys k
@@ -218,22 +147,3 @@ module _ {A : Type 0} where
   at-split (x ∷ xs) ys zero e = inl e
   at-split (x ∷ xs) ys (suc k) e =
       ⊎-elim inl (λ l. inr (record { place = l .place; number = (let n = l .number in omega arith); at = l .at })) (at-split xs ys k e)
-
-  pub at-below : (xs : List A) (k : ℕ) {a : A} → getElem? xs k ≡ some a → k < length xs
-  at-below [] k e = absurd (none-some refl e)
-  at-below (x ∷ xs) zero e = omega arith
-  at-below (x ∷ xs) (suc k) e = let h = at-below xs k e in omega arith
-
-  pub below-at : (xs : List A) (k : ℕ) → k < length xs → (a : A) × (getElem? xs k ≡ some a)
-  below-at [] k h = absurd (omega arith)
-  below-at (x ∷ xs) zero h = (x, refl)
-  below-at (x ∷ xs) (suc k) h = below-at xs k (omega arith)
-
-  pub at-mem : (xs : List A) (k : ℕ) {a : A} → getElem? xs k ≡ some a → List·Memᴰ a xs
-  at-mem [] k e = absurd (none-some refl e)
-  at-mem (x ∷ xs) zero {a} e = List·Memᴰ·head (some-one e refl)
-  at-mem (x ∷ xs) (suc k) e = List·Memᴰ·tail (at-mem xs k e)
-
-  pub mem-at : (xs : List A) {a : A} → List·Memᴰ a xs → (k : ℕ) × (getElem? xs k ≡ some a)
-  mem-at [] m = absurd (List·Memᴰ·not-nil m)
-  mem-at (x ∷ xs) m = ⊎-elim (λ e. (0, ap some (sym e))) (λ t. let (k, h) = mem-at xs t in (suc k, h)) (List·Memᴰ·cases-cons m)

@@ -7,14 +7,15 @@ use Prim.Native.Nat.{ℕ, suc}
 use lib.ListN.{getElem?}
 use Rattle.book.specs.Grammar.{Grammar, symbols}
 use Rattle.finding.specs.Numbered.{Arrow}
+use Rattle.finding.proofs.Laws.{first-entry, upto-has}
 use Rattle.theory.specs.Items.{Item, item, items, Dotted, Sound}
 use Rattle.theory.specs.Closure.{Closed, closure, carried, initial, Carried}
 use Rattle.theory.specs.Closure.Closed.{kernel, opened}
 use Rattle.theory.specs.Machine.{Machine, HasItem, Holds}
-use Rattle.theory.proofs.Lists.{some-one, mem-upto}
+use Rattle.theory.proofs.Lists.{some-one}
 use Rattle.theory.proofs.Items.{dotted-below, dotted-next, rule-first, first-rewrites, after-known, item-zero}
 use Rattle.theory.proofs.Closure.{closure-members, carried-members, goto-carried, goto-only}
-use Rattle.theory.proofs.Numbering.{entry-zero, entry-left, move-made, step-made}
+use Rattle.theory.proofs.Numbering.{entry-left, move-made, step-made}
 use Rattle.theory.proofs.Graphs.{Closes, Outset, Over}
 use Rattle.theory.proofs.Graphs.Closes.{kernel as c-kernel, opened as c-opened}
 
@@ -44,7 +45,7 @@ module _ (g : Grammar) (u : Sound g) where
 
   module _ {states : List (List ℕ)} {moves : List Arrow} (n : Machine g states moves) where
     pub state-zero : getElem? states 0 ≡ some (initial g)
-    state-zero = entry-zero n
+    state-zero = first-entry n
 
     has-in : {s k : ℕ} {set : List ℕ} → getElem? states s ≡ some set → HasItem states s k → List·Memᴰ k set
     has-in {k = k} e h = subst (List·Memᴰ k) (some-one (h .at) e) (h .member)
@@ -72,8 +73,8 @@ module _ (g : Grammar) (u : Sound g) where
 
     pub ends : {q x p : ℕ} → List·Memᴰ (q, x, p) moves → Ends q x p
     ends {q} {x} {p} v =
-        let (set, e) = entry-left n v in
-        let d = move-made n e v in
+        let (set, e) = entry-left (symbols g) n v in
+        let d = move-made (symbols g) n e v in
         let r = goto-only g set x (d .steps) in
         record { from = set; at = e; number = r .number; by = r .by; to = d .place ∙ ap some (r .is) }
 
@@ -120,7 +121,7 @@ module _ (g : Grammar) (u : Sound g) where
     moves-when q x a l r i =
         let h = i .has in
         let c : Carried g (h .set) x (suc (i .number)) = record { from = i .number; member = h .member; left = a; before = l; after = r; item = i .is; number = refl } in
-        let (p, v, z) = step-made n (h .at) (mem-upto (symbols g) (after-known g u (i .number) (i .is))) (goto-carried g (h .set) x c) in
+        let (p, v, z) = step-made (symbols g) n (h .at) (upto-has (symbols g) _ (after-known g u (i .number) (i .is))) (goto-carried g (h .set) x c) in
         (p, v)
 
     pub moves-only : (q x p : ℕ) → List·Memᴰ (q, x, p) moves → (a : ℕ) × (l : List ℕ) × (r : List ℕ) × Holds g states q a l (x ∷ r)

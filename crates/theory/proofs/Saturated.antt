@@ -8,9 +8,10 @@ use Prim.Native.Nat.{ℕ, zero, suc, _+_, _≤_, _<_}
 use lib.Dec.{eqb}
 use lib.ListN.{length}
 use borrow.Author.Tests.{eq-eqb, eqb-true}
-use Rattle.theory.specs.Lists.{Increasing, keep, same, joins, grow, rounds, saturate, Reach}
+use Rattle.table.specs.Lists.{Ascending}
+use Rattle.theory.specs.Lists.{keep, same, joins, grow, rounds, saturate, Reach}
 use Rattle.theory.specs.Lists.Reach.{base, step}
-use Rattle.theory.proofs.Lists.{true-or-false, or-left, or-right, or-cases, keep-take, keep-leave, keep-mem, mem-keep, any-mem, mem-any, keep-length, ascending-keep, same-equal}
+use Rattle.theory.proofs.Lists.{true-or-false, or-left, or-right, or-cases, keep-take, keep-leave, keep-mem, mem-keep, any-mem, mem-any, keep-length, same-equal, in-order-keep}
 
 -- a weaker test keeps the same, or more
 keep-more : (p q : ℕ → Bool) (xs : List ℕ) → ((k : ℕ) → List·Memᴰ k xs → p k ≡ true → q k ≡ true) → (keep q xs ≡ keep p xs) ⊎ (length (keep p xs) < length (keep q xs))
@@ -94,12 +95,12 @@ module _ (U : List ℕ) (leads : ℕ → ℕ → Bool) where
     complete s k,
   )
 
-  rounds-increasing : (n : ℕ) (s : List ℕ) → Increasing U → Increasing s → Increasing (rounds U leads n s)
-  rounds-increasing zero s u h = h
-  rounds-increasing (suc n) s u h =
-      ⊎-elim (λ q. subst Increasing (sym (rounds-stop n s q)) h)
-      (λ q. subst Increasing (sym (rounds-go n s q)) (rounds-increasing n (grow U leads s) u (ascending-keep (joins U leads s) _<_ U u)))
+  rounds-ascending : (n : ℕ) (s : List ℕ) → Ascending U → Ascending s → Ascending (rounds U leads n s)
+  rounds-ascending zero s u h = h
+  rounds-ascending (suc n) s u h =
+      ⊎-elim (λ q. subst Ascending (sym (rounds-stop n s q)) h)
+      (λ q. subst Ascending (sym (rounds-go n s q)) (rounds-ascending n (grow U leads s) u (in-order-keep (joins U leads s) _<_ U u)))
       (true-or-false (same s (grow U leads s)))
 
-  pub saturate-increasing : (s : List ℕ) → Increasing U → Increasing (saturate U leads s)
-  saturate-increasing s u = rounds-increasing (length U) (grow U leads s) u (ascending-keep (joins U leads s) _<_ U u)
+  pub saturate-ascending : (s : List ℕ) → Ascending U → Ascending (saturate U leads s)
+  saturate-ascending s u = rounds-ascending (length U) (grow U leads s) u (in-order-keep (joins U leads s) _<_ U u)

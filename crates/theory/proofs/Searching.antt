@@ -11,9 +11,10 @@ use Rattle.finding.specs.Numbered.{Arrow, Firsts, all, targets, Row, Rows, Numb
 use Rattle.finding.specs.Numbered.Firsts.{nil, old, new}
 use Rattle.finding.specs.Numbered.Row.{end as row-end, pass, go}
 use Rattle.finding.specs.Numbered.Rows.{end as rows-end, row}
+use Rattle.table.proofs.Lists.{stands-left}
 use Rattle.theory.specs.Executable.{Search, search, Placed, placed, place, scan, visit, numbered}
 use Rattle.std.proofs.shelf.Lists.{length-push}
-use Rattle.theory.proofs.Lists.{true-or-false, some-one, none-some, at-left, at-right}
+use Rattle.theory.proofs.Lists.{true-or-false, some-one, none-some, at-right}
 
 firsts-append : {A : Type 0} {seen xs ns : List A} → Firsts seen xs ns → {ys ms : List A} → Firsts (seen ++ ns) ys ms → Firsts seen (xs ++ ys) (ns ++ ms)
 firsts-append {seen = seen} nil {ys} {ms} f = subst (λ l. Firsts l ys ms) (append-nil seen) f
@@ -23,7 +24,7 @@ firsts-append {seen = seen} (new {t = t} {ns = ns} h g) {ys} {ms} f = new h (fir
 row-more : {A : Type 0} {es : List A} {step : ℕ → Option A} {i : ℕ} {xs : List ℕ} {ms : List Arrow} → Row es step i xs ms → (more : List A) → Row (es ++ more) step i xs ms
 row-more row-end more = row-end
 row-more (pass h r) more = pass h (row-more r more)
-row-more {es = es} (go {j = j} t h l r) more = go t h (at-left es more j l) (row-more r more)
+row-more {es = es} (go {j = j} t h l r) more = go t h (stands-left es more _ j l) (row-more r more)
 
 -- each entry but the first is a target of an earlier one
 abbrev Earlier : {A : Type 0} → (A → List A) → List A → Type 0
@@ -120,7 +121,7 @@ module _ {A : Type 0} {equal : A → A → Bool} (tells : Tells equal) (step : A
         found = s .found;
         entries = e;
         firsts = subst (λ l. Firsts es l (s .found)) (sym aim) (old m (subst (λ l. Firsts l (targets step xs a) (s .found)) q (s .firsts)));
-        moves = go t h (ap (getElem? (r .entries)) kn ∙ ap (λ l. getElem? l k) e ∙ at-left es (s .found) k g) (s .moves);
+        moves = go t h (ap (getElem? (r .entries)) kn ∙ ap (λ l. getElem? l k) e ∙ stands-left es (s .found) _ k g) (s .moves);
       }
   scan-on i a x xs es t h (added m q n) {r} s =
       let e : r .entries ≡ es ++ (t ∷ s .found) = s .entries ∙ ap (λ l. l ++ s .found) q ∙ append-assoc es (t ∷ []) (s .found) in

@@ -6,6 +6,7 @@ use native.Mathlib.Omega.{arith}
 use Prim.Native.Nat.{ℕ, zero, suc}
 use Rattle.book.specs.Grammar.{Grammar, rule, symbols, Rewrites}
 use Rattle.finding.specs.Numbered.{Arrow}
+use Rattle.finding.proofs.Laws.{numbered-unique}
 use Rattle.theory.specs.Items.{Item, item, items, Dotted, Sound}
 use Rattle.theory.specs.Closure.{Closed, carried}
 use Rattle.theory.specs.Closure.Closed.{kernel, opened}
@@ -13,7 +14,7 @@ use Rattle.theory.specs.Machine.{Machine, HasItem, Holds, FinalState, MachineL
 use Rattle.theory.proofs.Lists.{some-one, snoc-not-nil}
 use Rattle.theory.proofs.Items.{after-known, item-zero, item-one}
 use Rattle.theory.proofs.Closure.{carried-members}
-use Rattle.theory.proofs.Numbering.{from-earlier, move-one, numbered-unique}
+use Rattle.theory.proofs.Numbering.{from-earlier, move-one}
 use Rattle.theory.proofs.Machine.{same-item, state-zero, zero-closed, zeroth, ends, move-closed, moved, moves-when, moves-only}
 use Rattle.theory.proofs.Graphs.{Closes, Outset, Over}
 use Rattle.theory.proofs.Graphs.Closes.{kernel as c-kernel, opened as c-opened}
@@ -69,7 +70,7 @@ module _ (g : Grammar) (u : Sound g) where
     zero-alone : (s : ℕ) → HasItem states s 0 → s ≡ 0
     zero-alone zero h = refl
     zero-alone (suc s) h =
-        let e = from-earlier n (suc s) (omega arith) (h .at) in
+        let e = from-earlier (symbols g) n (suc s) (omega arith) (h .at) in
         let d = ends g u n (e .move) in
         absurd (closed-not-zero (d .from) (e .symbol) (move-closed g u n d .0 h) refl)
 
@@ -94,18 +95,18 @@ module _ (g : Grammar) (u : Sound g) where
     final-move : (s : ℕ) → FinalState states s → List·Memᴰ (0, g .start, s) moves
     final-move zero h = absurd (final-not-zero h)
     final-move (suc s) h =
-        let e = from-earlier n (suc s) (omega arith) (h .at) in
+        let e = from-earlier (symbols g) n (suc s) (omega arith) (h .at) in
         let (p, q) = final-entered (e .from) (e .symbol) (suc s) h (e .move) in
         subst (λ (t : ℕ × ℕ). List·Memᴰ (t .0, t .1, suc s) moves) (λ i. (p i, q i)) (e .move)
 
     pub final-one : (s t : ℕ) → FinalState states s → FinalState states t → s ≡ t
-    final-one s t h k = move-one n (final-move s h) (final-move t k)
+    final-one s t h k = move-one (symbols g) n (final-move s h) (final-move t k)
 
     -- a state has, with a name after a dot, the first item of each of its rules
     pub state-closed : (s a c : ℕ) (l r γ : List ℕ) → Holds g states s a l (c ∷ r) → Rewrites g c γ → Holds g states s c [] γ
     state-closed zero a c l r γ i h = zeroth g u n c [] γ .1 (c-opened (zeroth g u n a l (c ∷ r) .0 i) h)
     state-closed (suc s) a c l r γ i h =
-        let e = from-earlier n (suc s) (omega arith) (i .has .at) in
+        let e = from-earlier (symbols g) n (suc s) (omega arith) (i .has .at) in
         let m = moved g u n (e .from) (e .symbol) (suc s) (e .move) in
         m c [] γ .1 (c-opened (m a l (c ∷ r) .0 i) h)
 
@@ -119,7 +120,7 @@ module _ (g : Grammar) (u : Sound g) where
         let (b, l, r, c) = opener (λ (o : Outset g a [] γ). let k = u .lefts-known (rule a γ) (h .1) in let q = o .left in omega arith) (zeroth g u n a [] γ .0 i) refl in
         moves-when g u n 0 a b l r (zeroth g u n b l (a ∷ r) .1 c)
     first-moves (suc s) a γ i h =
-        let e = from-earlier n (suc s) (omega arith) (i .has .at) in
+        let e = from-earlier (symbols g) n (suc s) (omega arith) (i .has .at) in
         let m = moved g u n (e .from) (e .symbol) (suc s) (e .move) in
         let (b, l, r, c) = opener (λ (o : Over (Holds g states (e .from)) (e .symbol) a [] γ). snoc-not-nil (o .rest) (e .symbol) (sym (o .is))) (m a [] γ .0 i) refl in
         moves-when g u n (suc s) a b l r (m b l (a ∷ r) .1 c)
@@ -133,7 +134,7 @@ module _ (g : Grammar) (u : Sound g) where
           moves-when = moves-when g u n;
           carries = state-carries;
           moves-only = moves-only g u n;
-          move-one = λ s x p q v w. move-one n v w;
+          move-one = λ s x p q v w. move-one (symbols g) n v w;
           final = final-state;
           final-one = final-one;
           final-entered = final-entered;

@@ -5,21 +5,25 @@ use mathlib.Core.Bool.{true}
 use mathlib.Core.Option.{none, some}
 use mathlib.Core.List.{List, [], _∷_, _++_, map, append-assoc, append-nil, List·Memᴰ, List·Memᴰ·head, List·Memᴰ·not-nil, List·Memᴰ·cases-cons}
 use native.Mathlib.Omega.{arith}
-use Prim.Native.Nat.{ℕ, zero, suc, _<_}
+use Prim.Native.Nat.{ℕ, _<_}
 use lib.Dec.{eqb}
 use lib.ListN.{length, getElem?}
 use borrow.Author.Tests.{eq-eqb, eqb-true}
 use Rattle.finding.specs.Numbered.{Arrow, upto}
-use Rattle.theory.specs.Lists.{Increasing, and, keep, any, Reach}
+use Rattle.finding.proofs.Laws.{first-entry, upto-has, upto-below, upto-ascending, numbered-unique}
+use Rattle.table.proofs.Lists.{stands-map}
+use Rattle.table.proofs.Orders.{ascending-same}
+use Rattle.table.specs.Lists.{Ascending}
+use Rattle.theory.specs.Lists.{and, keep, any, Reach}
 use Rattle.theory.specs.Lists.Reach.{base, step}
 use Rattle.theory.specs.Flattening.{Acceptor, Leads}
 use Rattle.theory.specs.Flattening.Leads.{here, on}
 use Rattle.theory.specs.Sentences.{Reads, Passes}
 use Rattle.theory.specs.Sentences.Reads.{stop, arc, jump}
 use Rattle.theory.specs.Subsets.{InRange, jumps-to, arcs-to, spread, first-set, word-set, words-set, passes, subset-step, Determined, Determinised, DeterminedPasses, SubsetLaws}
-use Rattle.theory.proofs.Lists.{and-is, and-only, some-one, none-some, keep-mem, mem-keep, any-mem, mem-any, mem-upto, upto-mem, upto-increasing, increasing-unique}
-use Rattle.theory.proofs.Saturated.{saturated, saturate-increasing}
-use Rattle.theory.proofs.Numbering.{entry-zero, move-made, step-made as step-on, numbered-unique}
+use Rattle.theory.proofs.Lists.{and-is, and-only, some-one, none-some, keep-mem, mem-keep, any-mem, mem-any}
+use Rattle.theory.proofs.Saturated.{saturated, saturate-ascending}
+use Rattle.theory.proofs.Numbering.{move-made, step-made as step-on}
 
 -- ── readings ──
 
@@ -64,11 +68,6 @@ parted {f} {q} (arc {r = r} {x = x} {w = w} a k) (y ∷ u) v e =
     record { middle = s .middle; front = arc (subst (λ i. List·Memᴰ (q, i, r) (f .arcs)) d a) (s .front); back = s .back }
 parted (jump j k) u v e = let s = parted k u v e in record { middle = s .middle; front = jump j (s .front); back = s .back }
 
-at-map : {A B : Type 0} (h : A → B) (xs : List A) (i : ℕ) {a : A} → getElem? xs i ≡ some a → getElem? (map h xs) i ≡ some (h a)
-at-map h [] i e = absurd (none-some refl e)
-at-map h (x ∷ xs) zero e = ap (λ y. some (h y)) (some-one refl e)
-at-map h (x ∷ xs) (suc i) e = at-map h xs i e
-
 -- ── sets ──
 
 jumps-to-only : (f : Acceptor) (j k : ℕ) → jumps-to f j k ≡ true → List·Memᴰ (j, k) (f .jumps)
@@ -104,7 +103,7 @@ arcs-to-is f set x n s =
 
 module _ (f : Acceptor) (fit : InRange f) where
   inside : (j k : ℕ) → jumps-to f j k ≡ true → List·Memᴰ j (upto (f .nodes))
-  inside j k e = mem-upto (f .nodes) (fit .jumps-within j k (jumps-to-only f j k e) .0)
+  inside j k e = upto-has (f .nodes) _ (fit .jumps-within j k (jumps-to-only f j k e) .0)
 
   pub record Jumped (set : List ℕ) (n : ℕ) : Type 0 where
     pub from : ℕ
@@ -119,23 +118,22 @@ module _ (f : Acceptor) (fit : InRange f) where
   jumped-reach : {q n : ℕ} {v : List ℕ} → Reads f q v n → v ≡ [] → {set : List ℕ} → Reach (upto (f .nodes)) (jumps-to f) set q → Reach (upto (f .nodes)) (jumps-to f) set n
   jumped-reach stop e r = r
   jumped-reach (arc a k) e r = let z : _≡_ {A = ℕ} 0 1 = cc in absurd (omega arith)
-  jumped-reach (jump {q = q} {r = t} j k) e r = jumped-reach k e (step r (mem-upto (f .nodes) (fit .jumps-within q t j .1)) (jumps-to-is f q t j))
+  jumped-reach (jump {q = q} {r = t} j k) e r = jumped-reach k e (step r (upto-has (f .nodes) _ (fit .jumps-within q t j .1)) (jumps-to-is f q t j))
 
   pub spread-members : (set : List ℕ) → ((k : ℕ) → List·Memᴰ k set → k < f .nodes) → (n : ℕ) → List·Memᴰ n (spread f set) ↔ Jumped set n
   spread-members set within n =
       let s = saturated (upto (f .nodes)) (jumps-to f) inside set n in (
         (λ m. reach-jumped (s .0 m)),
-        (λ (j : Jumped set n). s .1 (jumped-reach (j .reads) refl (base (mem-upto (f .nodes) (within (j .from) (j .member))) (j .member)))),
+        (λ (j : Jumped set n). s .1 (jumped-reach (j .reads) refl (base (upto-has (f .nodes) _ (within (j .from) (j .member))) (j .member)))),
       )
 
-  pub spread-increasing : (set : List ℕ) → Increasing (spread f set)
-  spread-increasing set = saturate-increasing (upto (f .nodes)) (jumps-to f) set (upto-increasing (f .nodes))
+  pub spread-ascending : (set : List ℕ) → Ascending (spread f set)
+  spread-ascending set = saturate-ascending (upto (f .nodes)) (jumps-to f) set (upto-ascending (f .nodes))
 
-  -- an increasing list of just those nodes is the spread set
-  pub spread-unique : (set to : List ℕ) → ((k : ℕ) → List·Memᴰ k set → k < f .nodes) → Increasing to → ((n : ℕ) → List·Memᴰ n to ↔ Jumped set n) → to ≡ spread f set
+  -- an ascending list of just those nodes is the spread set
+  pub spread-unique : (set to : List ℕ) → ((k : ℕ) → List·Memᴰ k set → k < f .nodes) → Ascending to → ((n : ℕ) → List·Memᴰ n to ↔ Jumped set n) → to ≡ spread f set
   spread-unique set to within h m =
-      increasing-unique to (spread f set) h (spread-increasing set)
-      (λ n. ((λ i. spread-members set within n .1 (m n .0 i)), (λ i. m n .1 (spread-members set within n .0 i))))
+      ascending-same to (spread f set) h (spread-ascending set) (λ n i. spread-members set within n .1 (m n .0 i)) (λ n i. m n .1 (spread-members set within n .0 i))
 
   -- a member of the set, over an arc on x, and jumps
   pub record Onto (set : List ℕ) (x n : ℕ) : Type 0 where
@@ -145,7 +143,7 @@ module _ (f : Acceptor) (fit : InRange f) where
 
   pub word-members : (set : List ℕ) (x n : ℕ) → List·Memᴰ n (word-set f set x) ↔ Onto set x n
   word-members set x n =
-      let s = spread-members (keep (arcs-to f set x) (upto (f .nodes))) (λ k m. upto-mem (f .nodes) (keep-mem (arcs-to f set x) (upto (f .nodes)) m .0)) n in (
+      let s = spread-members (keep (arcs-to f set x) (upto (f .nodes))) (λ k m. upto-below (f .nodes) _ (keep-mem (arcs-to f set x) (upto (f .nodes)) m .0)) n in (
         (λ m. let j = s .0 m in
             let (b, e) = keep-mem (arcs-to f set x) (upto (f .nodes)) (j .member) in
             record { middle = j .from; by = arcs-to-only f set x (j .from) e; reads = j .reads }),
@@ -153,16 +151,15 @@ module _ (f : Acceptor) (fit : InRange f) where
             let c = o .by in
             s .1 (record {
               from = o .middle;
-              member = mem-keep (arcs-to f set x) (upto (f .nodes)) (mem-upto (f .nodes) (fit .arcs-within (c .from) x (o .middle) (c .over) .2)) (arcs-to-is f set x (o .middle) c);
+              member = mem-keep (arcs-to f set x) (upto (f .nodes)) (upto-has (f .nodes) _ (fit .arcs-within (c .from) x (o .middle) (c .over) .2)) (arcs-to-is f set x (o .middle) c);
               reads = o .reads;
             })),
       )
 
-  -- an increasing list of just those nodes is the set after the word
-  pub word-set-unique : (set : List ℕ) (x : ℕ) (to : List ℕ) → Increasing to → ((n : ℕ) → List·Memᴰ n to ↔ Onto set x n) → to ≡ word-set f set x
+  -- an ascending list of just those nodes is the set after the word
+  pub word-set-unique : (set : List ℕ) (x : ℕ) (to : List ℕ) → Ascending to → ((n : ℕ) → List·Memᴰ n to ↔ Onto set x n) → to ≡ word-set f set x
   word-set-unique set x to h m =
-      increasing-unique to (word-set f set x) h (spread-increasing (keep (arcs-to f set x) (upto (f .nodes))))
-      (λ n. ((λ i. word-members set x n .1 (m n .0 i)), (λ i. m n .1 (word-members set x n .0 i))))
+      ascending-same to (word-set f set x) h (spread-ascending (keep (arcs-to f set x) (upto (f .nodes)))) (λ n i. word-members set x n .1 (m n .0 i)) (λ n i. m n .1 (word-members set x n .0 i))
 
   -- the set has just the nodes to which w leads
   abbrev pub After : List ℕ → List ℕ → Type 0
@@ -177,10 +174,10 @@ module _ (f : Acceptor) (fit : InRange f) where
         (λ r. s .1 (record { from = 0; member = List·Memᴰ·head refl; reads = r })),
       )
 
-  -- an increasing list of just the nodes that jumps reach from node 0 is the first set
-  pub first-set-unique : (to : List ℕ) → Increasing to → ((n : ℕ) → List·Memᴰ n to ↔ Reads f 0 [] n) → to ≡ first-set f
+  -- an ascending list of just the nodes that jumps reach from node 0 is the first set
+  pub first-set-unique : (to : List ℕ) → Ascending to → ((n : ℕ) → List·Memᴰ n to ↔ Reads f 0 [] n) → to ≡ first-set f
   first-set-unique to h m =
-      increasing-unique to (first-set f) h (spread-increasing (0 ∷ [])) (λ n. ((λ i. first-after n .1 (m n .0 i)), (λ i. m n .1 (first-after n .0 i))))
+      ascending-same to (first-set f) h (spread-ascending (0 ∷ [])) (λ n i. first-after n .1 (m n .0 i)) (λ n i. m n .1 (first-after n .0 i))
 
   pub word-after : {w set : List ℕ} → After w set → (x : ℕ) → After (w ++ (x ∷ [])) (word-set f set x)
   word-after {w} {set} h x n =
@@ -237,7 +234,7 @@ module _ (f : Acceptor) (fit : InRange f) where
     leads-at : {i j : ℕ} {w : List ℕ} → Leads (d .arcs) i w j → {v : List ℕ} → At i v → At j (v ++ w)
     leads-at {i} here {v} a = subst (At i) (sym (append-nil v)) a
     leads-at {i} {j} (on {r = r} {x = x} {xs = xs} m l) {v} a =
-        let k = move-made (t .numbered) (a .at) m in
+        let k = move-made (f .words) (t .numbered) (a .at) m in
         let e = step-only (a .set) x (k .steps) in
         let b : At r (v ++ (x ∷ [])) = record { set = word-set f (a .set) x; at = k .place ∙ ap some e; after = word-after (a .after) x } in
         subst (At j) (append-assoc v (x ∷ []) xs) (leads-at l b)
@@ -255,16 +252,16 @@ module _ (f : Acceptor) (fit : InRange f) where
         let s = parted r (v ++ (x ∷ [])) w shift in
         let c = last-word (s .front) v x refl in
         let e = step-made (a .set) x (word-after (a .after) x (s .middle) .1 (s .front)) in
-        let (j, m, z) = step-on (t .numbered) (a .at) (mem-upto (f .words) (fit .arcs-within (c .left) x (c .right) (c .over) .1)) e in
+        let (j, m, z) = step-on (f .words) (t .numbered) (a .at) (upto-has (f .words) _ (fit .arcs-within (c .left) x (c .right) (c .over) .1)) e in
         let b : At j (v ++ (x ∷ [])) = record { set = word-set f (a .set) x; at = z; after = word-after (a .after) x } in
         let q = at-leads w (v ++ (x ∷ [])) b (subst (λ l. Reads f 0 l n) shift r) in
         record { last = q .last; leads = on m (q .leads); its = subst (At (q .last)) (sym shift) (q .its) }
 
     at-first : At 0 []
-    at-first = record { set = first-set f; at = entry-zero (t .numbered); after = first-after }
+    at-first = record { set = first-set f; at = first-entry (t .numbered); after = first-after }
 
     final-at : {i : ℕ} {w : List ℕ} → (a : At i w) → getElem? (d .finals) i ≡ some (any (eqb (f .final)) (a .set))
-    final-at {i} a = ap (λ l. getElem? l i) (t .finals-are) ∙ at-map (λ set. any (eqb (f .final)) set) (t .sets) i (a .at)
+    final-at {i} a = ap (λ l. getElem? l i) (t .finals-are) ∙ stands-map (λ set. any (eqb (f .final)) set) (t .sets) i _ (a .at)
 
     pub same-sentences : (w : List ℕ) → DeterminedPasses d w ↔ Passes f w
     same-sentences w = (

@@ -5,6 +5,7 @@ use mathlib.Core.List.{List}
 use Prim.Native.Nat.{ℕ}
 use Rattle.book.specs.Grammar.{Grammar, symbols, Sentence, Derives, LeftLinear, RightLinear}
 use Rattle.finding.specs.Numbered.{Arrow}
+use Rattle.finding.proofs.Laws.{numbered-unique}
 use Rattle.theory.specs.Items.{Sound}
 use Rattle.theory.specs.Machine.{Machine}
 use Rattle.theory.specs.Policies.{Meaning, FinerOn}
@@ -14,11 +15,10 @@ use Rattle.theory.specs.Sentences.{Reads, Passes}
 use Rattle.theory.specs.Sentences.Reads.{stop, arc, jump}
 use Rattle.theory.specs.Laws.{AllLaws, Foundations}
 use Rattle.theory.proofs.Items.{items-length, dotted-only, dotted-at, dotted-next}
-use Rattle.theory.proofs.Closure.{closure-members, closure-increasing, goto-carried, goto-none, carried-members}
+use Rattle.theory.proofs.Closure.{closure-members, closure-ascending, goto-carried, goto-none, carried-members}
 use Rattle.theory.proofs.Policies.{policy-laws}
 use Rattle.theory.proofs.Ranges.{in-range}
 use Rattle.theory.proofs.Subsets.{subset-laws}
-use Rattle.theory.proofs.Numbering.{numbered-unique}
 use Rattle.theory.proofs.States.{machine-unique, machine-laws}
 use Rattle.theory.proofs.Unfolding.{graph-lawful, final-node-one, unfolding-laws}
 use Rattle.theory.proofs.Superset.{accepted}
@@ -94,7 +94,7 @@ foundations =
       item-at = λ g k a l r. (dotted-only g k, dotted-at g k);
       item-next = λ g k a x l r d. dotted-next g k d;
       closure-members = closure-members;
-      closure-increases = closure-increasing;
+      closure-ascends = closure-ascending;
       goto-moves = λ g set x k c. goto-carried g set x c;
       goto-stays = goto-none;
       carried-members = carried-members;

@@ -11,6 +11,8 @@ use lib.ListN.{length, getElem?}
 use borrow.Author.Tests.{eq-eqb, eqb-true}
 use Rattle.book.specs.Grammar.{Grammar, symbols}
 use Rattle.finding.specs.Numbered.{Arrow}
+use Rattle.finding.proofs.Laws.{first-entry, numbered-unique}
+use Rattle.table.proofs.Lists.{stands-some}
 use Rattle.theory.specs.Lists.{and}
 use Rattle.theory.specs.Items.{Sound}
 use Rattle.theory.specs.Machine.{Machine, Holds, FinalState}
@@ -19,8 +21,8 @@ use Rattle.theory.specs.Policies.Stacked.{empty, push}
 use Rattle.theory.specs.Unfolding.{along, Node, node, onward, Unfolded, NodeHolds, FinalNode, StackOf, UnfoldingLaws}
 use Rattle.theory.specs.Flattening.{Leads}
 use Rattle.theory.specs.Flattening.Leads.{here, on}
-use Rattle.theory.proofs.Lists.{true-or-false, and-is, and-only, some-one, none-some, below-at}
-use Rattle.theory.proofs.Numbering.{entry-zero, entry-left, move-made, step-made, move-symbol, move-one, from-earlier, numbered-unique}
+use Rattle.theory.proofs.Lists.{true-or-false, and-is, and-only, some-one, none-some}
+use Rattle.theory.proofs.Numbering.{entry-left, move-made, step-made, move-symbol, move-one, from-earlier}
 use Rattle.theory.proofs.Machine.{zeroth, moved, moves-when, moves-only}
 use Rattle.theory.proofs.States.{zero-unentered, final-not-zero, final-entered, final-state, final-one}
 use Rattle.theory.proofs.Graphs.{Closes, closes-map, Outset, Over, Graph, Lawful, leads-on}
@@ -93,19 +95,19 @@ pub record Edge (m : Meaning) (moves : List Arrow) (nodes : List Node) (n : Node
 module _ (g : Grammar) (u : Sound g) {states : List (List ℕ)} {moves : List Arrow} (mt : Machine g states moves) (m : Meaning)
     {nodes : List Node} {arrows : List Arrow} (un : Unfolded m moves (symbols g) nodes arrows) where
   pub node-zero : getElem? nodes 0 ≡ some (node 0 (m .first))
-  node-zero = entry-zero un
+  node-zero = first-entry un
 
   pub edge : {q x p : ℕ} {n : Node} → getElem? nodes q ≡ some n → List·Memᴰ (q, x, p) arrows → Edge m moves nodes n x p
   edge {x = x} {p} {n} e v =
-      let d = move-made un e v in
+      let d = move-made (symbols g) un e v in
       let o = onward-only m moves n x (d .steps) in
       record { target = o .target; move = along-mem moves (o .moves); at = d .place ∙ ap some (o .is) }
 
   pub edge-on : {q x t : ℕ} {n : Node} → getElem? nodes q ≡ some n → List·Memᴰ (n .state, x, t) moves → (j : ℕ) × List·Memᴰ (q, x, j) arrows × (getElem? nodes j ≡ some (node t (m .next (n .class) (n .state) x t)))
   edge-on {q} {x} {t} {n} e v =
       let (s, h) = along-has moves v in
-      let st : s ≡ t = move-one mt (along-mem moves h) v in
-      step-made un e (move-symbol mt v) (onward-made m moves n x (h ∙ ap some st))
+      let st : s ≡ t = move-one (symbols g) mt (along-mem moves h) v in
+      step-made (symbols g) un e (move-symbol (symbols g) mt v) (onward-made m moves n x (h ∙ ap some st))
 
   -- each node is reached by a stack, and over a list of symbols
   record Trail (p : ℕ) (n : Node) : Type 0 where
@@ -130,19 +132,19 @@ module _ (g : Grammar) (u : Sound g) {states : List (List ℕ)} {moves : List Ar
   trail (suc b) zero h {n} e =
       record { stack = []; stacked = subst (λ (k : Node). Stacked moves m [] (k .state) (k .class)) (some-one node-zero e) empty; way = []; leads = here }
   trail (suc b) (suc p) h {n} e =
-      let f = from-earlier un (suc p) (omega arith) e in
-      let (k, d) = entry-left un (f .move) in
+      let f = from-earlier (symbols g) un (suc p) (omega arith) e in
+      let (k, d) = entry-left (symbols g) un (f .move) in
       trail-on d (f .move) e (trail b (f .from) (let l = f .earlier in omega arith) d)
 
   pub stack-of : (p : ℕ) → p < length nodes → StackOf m moves nodes p
-  stack-of p h = let (n, e) = below-at nodes p h in let t = trail (suc p) p (omega arith) e in record { its = n; at = e; stack = t .stack; stacked = t .stacked }
+  stack-of p h = let (n, e) = stands-some nodes p h in let t = trail (suc p) p (omega arith) e in record { its = n; at = e; stack = t .stack; stacked = t .stacked }
 
   -- node 0 alone has state 0
   pub zero-node : (p : ℕ) (n : Node) → getElem? nodes p ≡ some n → n .state ≡ 0 → p ≡ 0
   zero-node zero n e z = refl
   zero-node (suc p) n e z =
-      let f = from-earlier un (suc p) (omega arith) e in
-      let (k, d) = entry-left un (f .move) in
+      let f = from-earlier (symbols g) un (suc p) (omega arith) e in
+      let (k, d) = entry-left (symbols g) un (f .move) in
       let v = edge d (f .move) in
       let q : v .target ≡ n .state = ap (λ (k : Node). k .state) (some-one (v .at) e) in
       absurd (zero-unentered g u mt (k .state) (f .symbol) (subst (λ t. List·Memᴰ (k .state, f .symbol, t) moves) (q ∙ z) (v .move)))
@@ -158,8 +160,8 @@ module _ (g : Grammar) (u : Sound g) {states : List (List ℕ)} {moves : List Ar
       let q : h .its ≡ node 0 (m .first) = some-one (h .at) node-zero in
       absurd (final-not-zero g u mt (subst (λ (k : Node). FinalState states (k .state)) q (h .final)))
   final-arrow (suc p) h =
-      let f = from-earlier un (suc p) (omega arith) (h .at) in
-      let (k, d) = entry-left un (f .move) in
+      let f = from-earlier (symbols g) un (suc p) (omega arith) (h .at) in
+      let (k, d) = entry-left (symbols g) un (f .move) in
       let v = edge d (f .move) in
       let q : h .its .state ≡ v .target = ap (λ (k : Node). k .state) (some-one (h .at) (v .at)) in
       let (z, y) = final-entered g u mt (k .state) (f .symbol) (v .target) (subst (FinalState states) q (h .final)) (v .move) in
@@ -168,7 +170,7 @@ module _ (g : Grammar) (u : Sound g) {states : List (List ℕ)} {moves : List Ar
 
   -- the final state has one node
   pub final-node-one : (p q : ℕ) → FinalNode states nodes p → FinalNode states nodes q → p ≡ q
-  final-node-one p q h k = move-one un (final-arrow p h) (final-arrow q k)
+  final-node-one p q h k = move-one (symbols g) un (final-arrow p h) (final-arrow q k)
 
   pub unfolding-laws : UnfoldingLaws g m states moves nodes arrows
   unfolding-laws =
@@ -189,7 +191,7 @@ module _ (g : Grammar) (u : Sound g) {states : List (List ℕ)} {moves : List Ar
         move-items = λ {p} {q} {x} {a} {l} {r} v. next p q x a l r v;
         move-when = λ {q} {x} {a} {l} {r} i. when q x a l r i;
         move-only = λ {q} {p} {x} v. only q p x v;
-        reached = λ {q} {p} {x} v. let (n, e) = entry-left un v in let t = trail (suc q) q (omega arith) e in (t .way, t .leads);
+        reached = λ {q} {p} {x} v. let (n, e) = entry-left (symbols g) un v in let t = trail (suc q) q (omega arith) e in (t .way, t .leads);
       }
     where
       first : (a : ℕ) (l r : List ℕ) → NodeHolds g states nodes 0 a l r ↔ Closes g (Outset g) a l r
@@ -198,7 +200,7 @@ module _ (g : Grammar) (u : Sound g) {states : List (List ℕ)} {moves : List Ar
 
       next : (p q x a : ℕ) (l r : List ℕ) → List·Memᴰ (q, x, p) arrows → NodeHolds g states nodes p a l r ↔ Closes g (Over (NodeHolds g states nodes q) x) a l r
       next p q x a l r v =
-          let (n, d) = entry-left un v in
+          let (n, d) = entry-left (symbols g) un v in
           let e = edge d v in (
             (λ i. closes-map (λ a l r c. record { rest = c .rest; was = record { its = n; at = d; holds = c .was }; is = c .is })
                 (moved g u mt (n .state) x (e .target) (e .move) a l r .0 (item-of p (e .at) i))),
@@ -217,6 +219,6 @@ module _ (g : Grammar) (u : Sound g) {states : List (List ℕ)} {moves : List Ar
 
       only : (q p x : ℕ) → List·Memᴰ (q, x, p) arrows → (a : ℕ) × (l : List ℕ) × (r : List ℕ) × NodeHolds g states nodes q a l (x ∷ r)
       only q p x v =
-          let (n, d) = entry-left un v in
+          let (n, d) = entry-left (symbols g) un v in
           let e = edge d v in
           let (a, l, r, i) = moves-only g u mt (n .state) x (e .target) (e .move) in (a, l, r, record { its = n; at = d; holds = i })

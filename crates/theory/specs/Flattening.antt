@@ -7,7 +7,9 @@ use lib.Dec.{ltb}
 use lib.ListN.{length}
 use Rattle.book.specs.Grammar.{Grammar, symbols, Rewrites}
 use Rattle.finding.specs.Numbered.{Arrow}
-use Rattle.theory.specs.Lists.{Ascending, keep}
+use Rattle.finding.specs.Laws.{Rises}
+use Rattle.table.specs.Lists.{InOrder}
+use Rattle.theory.specs.Lists.{keep}
 use Rattle.theory.specs.Machine.{Machine}
 use Rattle.theory.specs.Policies.{Meaning}
 use Rattle.theory.specs.Unfolding.{Node, Unfolded, NodeHolds, FinalNode}
@@ -64,10 +66,6 @@ pub record JumpLaws (g : Grammar) (states : List (List ℕ)) (nodes : List Node)
   pub leads-over : (q a to : ℕ) (side : List ℕ) → Rewrites g a side → List·Memᴰ (q, a, to) moves → (p : ℕ) × Leads moves q side p
   pub over-completes : (q p a to : ℕ) (side : List ℕ) → Rewrites g a side → Leads moves q side p → List·Memᴰ (q, a, to) moves → NodeHolds g states nodes p a side []
 
--- by the node left, then the word
-abbrev pub ArrowLess : Arrow → Arrow → Type 0
-ArrowLess a b = (a .0 < b .0) ⊎ ((a .0 ≡ b .0) × (a .1 < b .1))
-
 -- by the node left, then the node reached
 abbrev pub JumpLess : ℕ × ℕ → ℕ × ℕ → Type 0
 JumpLess a b = (a .0 < b .0) ⊎ ((a .0 ≡ b .0) × (a .1 < b .1))
@@ -78,9 +76,9 @@ pub record FlattenedFrom (g : Grammar) (states : List (List ℕ)) (nodes : List 
   pub nodes-are : f .nodes ≡ length nodes
   pub final-is : FinalNode states nodes (f .final)
   pub arcs-are : (q x p : ℕ) → List·Memᴰ (q, x, p) (f .arcs) ↔ (List·Memᴰ (q, x, p) moves × (x < g .words))
-  pub arcs-rise : Ascending ArrowLess (f .arcs)
+  pub arcs-rise : InOrder Rises (f .arcs)
   pub jumps-are : (p to : ℕ) → List·Memᴰ (p, to) (f .jumps) ↔ Jump g states nodes moves p to
-  pub jumps-rise : Ascending JumpLess (f .jumps)
+  pub jumps-rise : InOrder JumpLess (f .jumps)
 
 -- f is the flattened acceptor of the grammar g under a policy that means m
 pub record Flattened (g : Grammar) (m : Meaning) (f : Acceptor) : Type 0 where

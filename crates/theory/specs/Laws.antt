@@ -7,7 +7,7 @@ use Prim.Native.Nat.{ℕ, suc}
 use lib.ListN.{length}
 use Rattle.book.specs.Grammar.{Grammar, symbols, Derives, LeftLinear, RightLinear}
 use Rattle.finding.specs.Numbered.{Arrow}
-use Rattle.theory.specs.Lists.{Increasing}
+use Rattle.table.specs.Lists.{Ascending}
 use Rattle.theory.specs.Items.{items, item-count, Dotted, Numbers, Sound}
 use Rattle.theory.specs.Closure.{Closed, closure, carried, goto, Carried}
 use Rattle.theory.specs.Machine.{Machine, MachineLaws}
@@ -39,9 +39,9 @@ pub record Foundations : Type 0 where
   pub item-numbers : (g : Grammar) → length (items g) ≡ item-count g
   pub item-at : (g : Grammar) (k a : ℕ) (l r : List ℕ) → Dotted g k a l r ↔ Numbers g k a l r
   pub item-next : (g : Grammar) (k a x : ℕ) (l r : List ℕ) → Dotted g k a l (x ∷ r) → Dotted g (suc k) a (l ++ (x ∷ [])) r
-  -- the closure has just the closed items, in increasing order
+  -- the closure has just the closed items, in ascending order
   pub closure-members : (g : Grammar) (set : List ℕ) (k : ℕ) → List·Memᴰ k (closure g set) ↔ Closed g set k
-  pub closure-increases : (g : Grammar) (set : List ℕ) → Increasing (closure g set)
+  pub closure-ascends : (g : Grammar) (set : List ℕ) → Ascending (closure g set)
   -- a set moves on x to the closure of its carried items, where it has any
   pub goto-moves : (g : Grammar) (set : List ℕ) (x k : ℕ) → Carried g set x k → goto g set x ≡ some (closure g (carried (items g) set x))
   pub goto-stays : (g : Grammar) (set : List ℕ) (x : ℕ) → ((k : ℕ) → Carried g set x k → ⊥) → goto g set x ≡ none

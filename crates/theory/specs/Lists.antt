@@ -1,20 +1,10 @@
--- Words on lists: strictly ascending lists, tests over lists, and the least set that a test closes.
+-- Words on lists: tests over lists, and the least set that a test closes.
 use mathlib.Core.Path.{_≡_}
 use mathlib.Core.Bool.{Bool, true, false}
 use mathlib.Core.List.{List, [], _∷_, List·Memᴰ}
-use Prim.Native.Nat.{ℕ, zero, suc, _<_}
+use Prim.Native.Nat.{ℕ, zero, suc}
 use lib.Dec.{eqb}
 use lib.ListN.{length}
-use Rattle.std.specs.shelf.Lists.{All}
-
--- each element comes before all that follow it
-abbrev pub Ascending : {A : Type 0} → (A → A → Type 0) → List A → Type 0
-Ascending less [] = Unit {0}
-Ascending less (x ∷ xs) = All (less x) xs × Ascending less xs
-
--- a set of numbers is written as a strictly ascending list
-abbrev pub Increasing : List ℕ → Type 0
-Increasing xs = Ascending _<_ xs
 
 abbrev pub and : Bool → Bool → Bool
 and true b = b

@@ -27,7 +27,7 @@ jumps-to f j k = any (λ a. and (eqb (a .0) j) (eqb (a .1) k)) (f .jumps)
 abbrev pub arcs-to : Acceptor → List ℕ → ℕ → ℕ → Bool
 arcs-to f set x n = any (λ a. and (eqb (a .2) n) (and (eqb (a .1) x) (any (eqb (a .0)) set))) (f .arcs)
 
--- a set of nodes with all that jumps reach from it, increasing
+-- a set of nodes with all that jumps reach from it, ascending
 abbrev pub spread : Acceptor → List ℕ → List ℕ
 spread f set = saturate (upto (f .nodes)) (jumps-to f) set
 
