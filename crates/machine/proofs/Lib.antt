@@ -3,7 +3,6 @@ pub mod IndexWalk
 pub mod Noting
 pub mod Taking
 pub mod Opening
-pub mod Orders
 pub mod Seeding
 pub mod Gotos
 pub mod Initial

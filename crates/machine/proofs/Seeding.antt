@@ -16,7 +16,6 @@ use Rattle.table.specs.declared.numbers.ItemNo.{ItemNo}
 use Rattle.table.specs.Lists.{Ascending}
 use Rattle.table.proofs.Rows.{members-in, in-members, members-ascending}
 use Rattle.theory.specs.Items.{Dotted, item-count}
-use Rattle.theory.specs.Lists.{Increasing}
 use Rattle.theory.specs.Closure.{Closed, closure}
 use Rattle.theory.specs.Closure.Closed.{kernel, opened}
 use Rattle.theory.proofs.Items.{after-known, first-rewrites, fit-sound}
@@ -25,7 +24,6 @@ use Rattle.machine.specs.declared.items.Items.{Items}
 use Rattle.machine.specs.declared.closure.Closing.{Closing}
 use Rattle.machine.specs.Index.{FirstOf}
 use Rattle.machine.specs.Closing.{ItemsOf, marks, noted, Notes, AfterDot, Within, Grown, OpenedTo, KernelOf}
-use Rattle.machine.proofs.Orders.{increasing}
 
 -- nothing yet
 
@@ -96,5 +94,5 @@ module _ (g : Grammar) (items : Items) (of : ItemsOf g items) (K : List ℕ) (c 
 
   pub closes : Row (c .set .words) → members (c .set .words) ≡ closure g K
   closes row =
-      closure-unique g K (members (c .set .words)) (increasing (members (c .set .words)) (members-ascending (c .set .words)))
+      closure-unique g K (members (c .set .words)) (members-ascending (c .set .words))
       (λ k. ((λ m. w .sound k (members-in (c .set .words) k m)), (λ d. in-members (c .set .words) row k (complete d))))
