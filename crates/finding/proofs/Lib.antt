@@ -7,3 +7,4 @@ pub mod Visiting
 pub mod Starting
 pub mod Limited
 pub mod Plain
+pub mod Bounds

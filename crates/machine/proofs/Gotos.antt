@@ -138,7 +138,7 @@ module _ (g : Grammar) (items : Items) (of : ItemsOf g items) where
           some-one : {p q : List ℕ} → some p ≡ some q → p ≡ q
           some-one h = cc
 
-closed-kernel : (g : Grammar) (K words : List ℕ) → Row words → members words ≡ closure g K → KernelOf g words
+pub closed-kernel : (g : Grammar) (K words : List ℕ) → Row words → members words ≡ closure g K → KernelOf g words
 closed-kernel g K words row e k h = closed-below (closure-members g K k .0 (subst (List·Memᴰ k) e (in-members words row k h)))
 
 -- the space stays ready with one set more

@@ -6,3 +6,4 @@ pub mod Opening
 pub mod Seeding
 pub mod Gotos
 pub mod Initial
+pub mod Building

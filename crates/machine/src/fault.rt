@@ -1,9 +1,10 @@
 //! Why there is no machine.
 ghost use mathlib.Core.Path.{_≡_};
 ghost use Rattle.machine.specs.declared.fault.MachineFault.the-variants.{Book};
-ghost use Rattle.machine.specs.Machines.{refusal as refusalOf};
+ghost use Rattle.machine.specs.Machines.{refusal as refusalOf, fault-of};
 use book::BookFault;
 use book::Refusal;
+use finding::moves::Stop;
 
 /// Why there is no machine, with the place.
 #[derive(Clone, Copy)]
@@ -21,6 +22,18 @@ pub impl From<BookFault> for MachineFault as MachineFaultFromBook {
 
     fn from(f: BookFault) -> MachineFault {
         MachineFault::Book(f)
+    }
+}
+
+pub impl From<Stop> for MachineFault as MachineFaultFromStop {
+    ghost converts = { λ s r. r ≡ fault-of s };
+
+    fn from(stop: Stop) -> MachineFault {
+        match stop {
+            Stop::Room(n) => MachineFault::StateLimit(n),
+            Stop::Entry(n) => MachineFault::StateLimit(n),
+            Stop::Arrow(_, n) => MachineFault::MoveLimit(n),
+        }
     }
 }
 
