@@ -32,15 +32,15 @@ numbers-more bs out i h long e =
     ∙ ap (λ x. take i (numbers bs) ++ (x ∷ [])) (sym (getD-numbers bs i (omega arith)))
     ∙ sym (take-more (numbers bs) i 0 (omega (arith, length-numbers bs)))
 
-pub bytes-more : (ns out : List ℕ) (i : ℕ) → i < length ns → length out ≡ 2 * length ns → take (2 * i) out ≡ joined bytes-of (take i ns)
-    → take (2 * (i + 1)) (set (set out (2 * i) (getD ns i 0 % 256)) (2 * i + 1) (getD ns i 0 / 256)) ≡ joined bytes-of (take (i + 1) ns)
-bytes-more ns out i h long e =
-    let x : ℕ = getD ns i 0 in
+pub bytes-more : (ns out : List ℕ) (i low high : ℕ) → i < length ns → length out ≡ 2 * length ns → low ≡ getD ns i 0 % 256 → high ≡ getD ns i 0 / 256
+    → take (2 * i) out ≡ joined bytes-of (take i ns) → take (2 * (i + 1)) (set (set out (2 * i) low) (2 * i + 1) high) ≡ joined bytes-of (take (i + 1) ns)
+bytes-more ns out i low high h long l u e =
     let step : 2 * (i + 1) ≡ (2 * i + 1) + 1 = omega arith in
-    ap (λ n. take n (set (set out (2 * i) (getD ns i 0 % 256)) (2 * i + 1) (getD ns i 0 / 256))) step
-    ∙ take-more-set (set out (2 * i) (getD ns i 0 % 256)) (2 * i + 1) (getD ns i 0 / 256) (omega (arith, length-set out (2 * i) (getD ns i 0 % 256)))
-    ∙ ap (λ l. l ++ (getD ns i 0 / 256 ∷ [])) (take-more-set out (2 * i) (getD ns i 0 % 256) (omega arith) ∙ ap (λ l. l ++ (getD ns i 0 % 256 ∷ [])) e)
-    ∙ append-assoc (joined bytes-of (take i ns)) (getD ns i 0 % 256 ∷ []) (getD ns i 0 / 256 ∷ [])
+    ap (λ n. take n (set (set out (2 * i) low) (2 * i + 1) high)) step
+    ∙ take-more-set (set out (2 * i) low) (2 * i + 1) high (omega (arith, length-set out (2 * i) low))
+    ∙ ap (λ l. l ++ (high ∷ [])) (take-more-set out (2 * i) low (omega arith) ∙ ap (λ l. l ++ (low ∷ [])) e)
+    ∙ append-assoc (joined bytes-of (take i ns)) (low ∷ []) (high ∷ [])
+    ∙ (λ j. joined bytes-of (take i ns) ++ (l j ∷ (u j ∷ [])))
     ∙ joined-more bytes-of [] (take i ns) (getD ns i 0)
     ∙ ap (joined bytes-of) (sym (take-more ns i 0 h))
 

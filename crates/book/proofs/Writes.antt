@@ -67,15 +67,15 @@ rule-fit g a xs s =
     record { left = s 0 (omega arith) .1; short = s 1 (omega arith) .1
            ; right = all-from-getD (λ x. x < symbols g) xs 0 (λ i h. s (suc (suc i)) (omega arith) .1) }
 
--- what add leaves, where `taken` entries and `count` rules stood in the table
-pub added : (t t′ : List ℕ) (g : Grammar) (r : Rule) (taken count n : ℕ) → Holds t g → Fit (with-rule g r) → used g ≡ taken → length (g .rules) ≡ count
-    → n ≡ taken + (2 + length (r .right))
-    → t′ ≡ take taken (set t 3 (count + 1)) ++ (rule-entries r ++ drop (taken + (2 + length (r .right))) (set t 3 (count + 1)))
+-- what add leaves, where `taken` entries and `count` rules stood in the table, and t₁ counts one more
+pub added : (t t₁ t′ : List ℕ) (g : Grammar) (r : Rule) (taken count n : ℕ) → Holds t g → Fit (with-rule g r) → used g ≡ taken → length (g .rules) ≡ count
+    → n ≡ taken + (2 + length (r .right)) → t₁ ≡ set t 3 (count + 1)
+    → t′ ≡ take taken t₁ ++ (rule-entries r ++ drop (taken + (2 + length (r .right))) t₁)
     → Added t r t′ n
-added t t′ g r taken count n h fit takes counts end is =
-    let as-read : t′ ≡ take (used g) (set t 3 (length (g .rules) + 1)) ++ (rule-entries r ++ drop (used g + (2 + length (r .right))) (set t 3 (length (g .rules) + 1))) =
-            subst (λ k. t′ ≡ take (used g) (set t 3 (k + 1)) ++ (rule-entries r ++ drop (used g + (2 + length (r .right))) (set t 3 (k + 1)))) (sym counts)
-            (subst (λ k. t′ ≡ take k (set t 3 (count + 1)) ++ (rule-entries r ++ drop (k + (2 + length (r .right))) (set t 3 (count + 1)))) (sym takes) is) in
+added t t₁ t′ g r taken count n h fit takes counts end counted is =
+    let tail : ℕ → List ℕ → List ℕ = λ k l. take k l ++ (rule-entries r ++ drop (k + (2 + length (r .right))) l) in
+    let as-read : t′ ≡ tail (used g) (set t 3 (length (g .rules) + 1)) =
+            is ∙ ap (tail taken) counted ∙ ap (λ k. tail k (set t 3 (count + 1))) (sym takes) ∙ ap (λ k. tail (used g) (set t 3 (k + 1))) (sym counts) in
     record { before = g; held = h
            ; written = subst (λ k. Written t (with-rule g r) t′ k) (let u = used-push g r in omega arith)
                  (subst (λ l. Written t (with-rule g r) l (used (with-rule g r))) (sym (as-read ∙ added-entries t g r h)) (written t (with-rule g r) fit))

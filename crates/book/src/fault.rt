@@ -1,6 +1,8 @@
 //! The faults of a book, and what every refusal tells.
 ghost use mathlib.Core.Path.{_≡_};
-ghost use Rattle.book.specs.Refusals.{refusal as refusalOf};
+ghost use Rattle.std.specs.declared.option.Option.the-variants.{Some};
+ghost use Rattle.book.specs.Refusals.{refusal as refusalOf, refusal-line};
+use std::fmt;
 
 /// What a refusal tells: the number of its cause, its layer, and its place.
 #[derive(Clone, Copy, PartialEq, Eq, Debug)]
@@ -8,6 +10,16 @@ pub struct Refusal {
     pub number: u8,
     pub layer: u8,
     pub place: usize,
+}
+
+/// As `refused 3 layer 1 place 4`.
+pub impl fmt::Display for Refusal as RefusalDisplay {
+    ghost shown = { λ r. Some (refusal-line r) };
+
+    fn fmt<W: fmt::Write>(&self, f: &mut fmt::Formatter<W>) -> fmt::Result {
+        let Refusal { number, layer, place } = *self;
+        write!(f, "refused {number} layer {layer} place {place}")
+    }
 }
 
 /// Why a call on a book was refused, with the place.

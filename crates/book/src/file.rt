@@ -1,6 +1,6 @@
 //! Book files: load and save.
 ghost use mathlib.Core.Path.{_≡_};
-ghost use Prim.Native.Nat.{_+_, _*_, _≤_};
+ghost use Prim.Native.Nat.{_+_, _*_, _/_, _%_, _≤_};
 ghost use lib.ListN.{length};
 ghost use Rattle.std.specs.shelf.Lists.{joined};
 ghost use Rattle.book.specs.Reading.{numbers};
@@ -49,14 +49,22 @@ pub fn read_numbers(bytes: &[u8], out: &mut [u16])
     }
 }
 
+/// The low byte and the high byte of a number.
+fn low_and_high(number: u16) -> (u8, u8)
+    ensures { λ r. ⌜ (r .0 ≡ number % 256) × (r .1 ≡ number / 256) ⌝ }
+{
+    ((number % 256) as u8, (number / 256) as u8)
+}
+
 /// Fills `out` with the two bytes of each number.
 pub fn write_numbers(numbers: &[u16], out: &mut [u8])
     requires { ⌜ length (now out) ≡ 2 * length (now numbers) ⌝ }
     ensures { λ _. ⌜ now (out .exit) ≡ joined bytes-of (now (numbers .entry)) ⌝ }
 {
     for i in 0..numbers.len() {
-        out[2 * i] = (numbers[i] % 256) as u8;
-        out[2 * i + 1] = (numbers[i] / 256) as u8;
+        let (low, high) = low_and_high(numbers[i]);
+        out[2 * i] = low;
+        out[2 * i + 1] = high;
     }
 }
 

@@ -8,6 +8,7 @@ mod writer;
 
 pub use fault::BookFault;
 pub use fault::Refusal;
+pub use fault::RefusalDisplay;
 pub use file::load;
 pub use file::save;
 pub use linear::Linearity;

@@ -8,7 +8,9 @@ use Rattle.book.proofs.Numbers.{bytes-more}
 use Rattle.book.proofs.file.write_numbers.Needs as need
 
 pub loop-i-again : need.loop-i-again
-loop-i-again c = bytes-more (c .args .numbers .now) (c .loop-i .out) (c .loop-i .i) (omega arith) (omega arith) (c .loop-i .inv)
+loop-i-again c =
+    bytes-more (c .args .numbers .now) (c .loop-i .out) (c .loop-i .i) _ _ (omega arith) (omega arith)
+    (c .low-and-high-low .ensures .0) (c .low-and-high-low .ensures .1) (c .loop-i .inv)
 
 pub returns : need.returns
 returns c =

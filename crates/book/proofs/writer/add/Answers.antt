@@ -62,7 +62,7 @@ pub write-rule-requires : need.write-rule-requires
 write-rule-requires c κs =
     let k = known _ _ (c .in-Continue-book .ensures tt .checked) in
     let r = c .in-Continue-length .ensures tt (k .grammar) (stands k) in
-    (simp length-set (omega (arith, r .0)), rule-fit (k .grammar) _ _ (r .1) .short)
+    (rw (c .count-rule .ensures) (simp length-set (omega (arith, r .0))), rule-fit (k .grammar) _ _ (r .1) .short)
 
 pub returns : need.returns
 returns c =
@@ -73,4 +73,4 @@ returns c =
     let r = c .in-Continue-length .ensures tt g (stands k) in
     let n = k .rules in let u = k .takes in
     let fit = fit-push g new (k .holds .fit) (rule-fit g _ _ (r .1)) (omega (arith, known-bounds k .4)) (omega (arith, r .2)) in
-    added t _ g new _ _ _ (k .holds) fit u n (omega (arith, r .0)) (c .write-rule .ensures)
+    added t _ _ g new _ _ _ (k .holds) fit u n (omega (arith, r .0)) (c .count-rule .ensures) (c .write-rule .ensures)
