@@ -6,6 +6,7 @@ use finding::moves::Move;
 use machine::machine::characteristic;
 use std::error::AnyError;
 use std::time::Instant;
+use table::numbers::ItemNoNumber;
 use table::numbers::StateNo;
 use table::sets::ItemSet;
 
@@ -18,11 +19,11 @@ fn time_machine(rt: &LibcRuntime, name: &str, table: &[u16], made: Result<usize,
         println!(rt, "{name}: no book")?;
         return Ok(());
     }
-    let mut states = vec![in rt.alloc(); ItemSet::empty(); 1024]?;
+    let mut states = [ItemSet::empty(); 1024];
     let none = Move { from: StateNo(0), symbol: 0, to: StateNo(0) };
-    let mut moves = vec![in rt.alloc(); none; 16384]?;
+    let mut moves = [none; 16384];
     let start = Instant::now(rt)?;
-    let found = characteristic(table, states.as_mut_slice(), moves.as_mut_slice());
+    let found = characteristic(table, &mut states, &mut moves);
     let taken = start.elapsed(rt)?.as_millis();
     match found {
         Ok(m) => println!(rt, "{name}: {} states, {} moves", m.states, m.moves)?,
