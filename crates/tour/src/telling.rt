@@ -1,4 +1,7 @@
 //! How the tour prints what a call answered.
+ghost use mathlib.Core.Path.{_≡_};
+ghost use mathlib.Core.Bool.{cond};
+ghost use lib.Chars.{codes};
 use super::house::spelling;
 use book::BookFault;
 use book::RefusalDisplay;
@@ -16,7 +19,9 @@ pub fn tell(rt: &impl Print, call: &str, answer: Result<usize, BookFault>) -> io
 }
 
 /// Yes or no.
-pub fn yes_no(fact: bool) -> &'static str {
+pub fn yes_no(fact: bool) -> &'static str
+    ensures { λ r. ⌜ now r ≡ cond fact (codes "yes") (codes "no") ⌝ }
+{
     if fact { "yes" } else { "no" }
 }
 
