@@ -2,6 +2,7 @@
 mod filing;
 mod house;
 mod looking;
+mod machines;
 mod making;
 mod refusing;
 mod telling;
@@ -20,5 +21,6 @@ fn main(rt: LibcRuntime) -> io::Result<()> {
     making::chapter(&rt, &mut table)?;
     looking::chapter(&rt, &table)?;
     filing::chapter(&rt, &table, &mut file)?;
+    machines::chapter(&rt, &table)?;
     refusing::chapter(&rt, &mut table, &mut file)
 }
