@@ -1,0 +1,3 @@
+pub mod Placing
+pub mod Taking
+pub mod Single
