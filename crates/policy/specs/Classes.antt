@@ -2,7 +2,7 @@
 use mathlib.Core.Path.{_≡_}
 use mathlib.Core.Logic.{_⊎_}
 use mathlib.Core.List.{List, [], _∷_, _++_, List·Memᴰ}
-use Prim.Native.Nat.{ℕ, _≤_}
+use Prim.Native.Nat.{ℕ, _<_, _≤_}
 use lib.ListN.{length}
 use Rattle.std.specs.declared.option.Option.{Option}
 use Rattle.std.specs.declared.option.Option.the-variants.{Some, None}
@@ -14,6 +14,10 @@ use Rattle.theory.specs.Policies.{Class, Meaning}
 -- which new class has a place beside the classes held
 abbrev pub Room : Type 1
 Room = List Class → Class → Type 0
+
+-- there is a place as long as fewer than 4,096 classes are held
+abbrev pub free-place : Room
+free-place held c = length held < 4096
 
 -- the class after a pair is pushed: the state left and the symbol, on the way to the state reached
 abbrev pub pushed : Meaning → ℕ → ℕ → ℕ → Class → Class
