@@ -3,3 +3,5 @@ pub mod Taking
 pub mod Single
 pub mod Linked
 pub mod LinkTaking
+pub mod Mapped
+pub mod Recent
