@@ -4,4 +4,3 @@ pub mod Single
 pub mod Linked
 pub mod LinkTaking
 pub mod Mapped
-pub mod Recent

@@ -1,4 +1,3 @@
 pub mod Classes
 pub mod Places
 pub mod Paths
-pub mod Lasts

@@ -1,5 +1,4 @@
 //! Policies: which stacks of the machine share a class, and how many classes there is room for.
-pub mod last;
 pub mod one_class;
 pub mod path;
 pub mod places;

@@ -2,11 +2,11 @@ use mathlib.Core.Path.{refl, ap}
 use lib.ListN.{take}
 use Rattle.theory.specs.Policies.{last}
 use Rattle.theory.specs.Policies.Class.{states}
 use Rattle.policy.specs.Classes.{pushed}
-use Rattle.policy.specs.Lasts.{depth-of, last-class}
+use Rattle.policies.specs.Lasts.{depth-of, last-class}
 use Rattle.policy.proofs.Mapped.{map-taken, map-past, placed-distinct}
-use Rattle.policy.proofs.Recent.{one-entry}
-use Rattle.policy.proofs.last.LastPolicy.next.Needs as need
+use Rattle.policies.proofs.Recent.{one-entry}
+use Rattle.policies.proofs.last.LastPolicy.next.Needs as need
 
 pub returns-in-Break-entry : need.returns-in-Break-entry
 returns-in-Break-entry c =

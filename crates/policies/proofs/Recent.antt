@@ -4,9 +4,9 @@ use mathlib.Core.List.{List, [], _∷_}
 use Prim.Native.Nat.{ℕ}
 use Rattle.table.specs.declared.numbers.StateNo.{StateNo}
 use Rattle.theory.specs.Policies.{listed}
-use Rattle.policy.specs.declared.last.Lefts.{Lefts}
-use Rattle.policy.specs.declared.last.Lefts.the-variants.{Zero, One, Two, Three, Four}
-use Rattle.policy.specs.Lasts.{lefts, last-class}
+use Rattle.policies.specs.declared.last.Lefts.{Lefts}
+use Rattle.policies.specs.declared.last.Lefts.the-variants.{Zero, One, Two, Three, Four}
+use Rattle.policies.specs.Lasts.{lefts, last-class}
 
 abbrev state : ℕ → StateNo
 state n = record { 0 = n }

@@ -3,10 +3,10 @@ use mathlib.Core.List.{List, [], _∷_, map}
 use Prim.Native.Nat.{ℕ}
 use Rattle.theory.specs.Policies.{Class}
 use Rattle.theory.specs.Policies.Class.{states}
-use Rattle.policy.specs.declared.last.Depth.{Depth}
-use Rattle.policy.specs.declared.last.Depth.the-variants.{One, Two, Three, Four}
-use Rattle.policy.specs.declared.last.Lefts.{Lefts}
-use Rattle.policy.specs.declared.last.Lefts.the-variants.{Zero as none, One as one, Two as two, Three as three, Four as four}
+use Rattle.policies.specs.declared.last.Depth.{Depth}
+use Rattle.policies.specs.declared.last.Depth.the-variants.{One, Two, Three, Four}
+use Rattle.policies.specs.declared.last.Lefts.{Lefts}
+use Rattle.policies.specs.declared.last.Lefts.the-variants.{Zero as none, One as one, Two as two, Three as three, Four as four}
 
 abbrev pub depth-of : Depth → ℕ
 depth-of One = 1

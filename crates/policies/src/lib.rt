@@ -1,0 +1,2 @@
+//! More policies: the last states left, and two policies side by side.
+pub mod last;
