@@ -82,6 +82,7 @@ impl Lefts {
 }
 
 /// The last states left, numbered by their places.
+#[derive(Drop)]
 pub struct Recents {
     rows: [Lefts; 4096],
     len: usize,
@@ -128,6 +129,7 @@ impl Recents {
 }
 
 /// The policy that keeps the last states left.
+#[derive(Drop)]
 pub struct Last {
     depth: Depth,
     entries: Recents,

@@ -1,2 +1,3 @@
 //! More policies: the last states left, and two policies side by side.
+pub mod both;
 pub mod last;

@@ -4,3 +4,4 @@ pub mod Single
 pub mod Linked
 pub mod LinkTaking
 pub mod Mapped
+pub mod Tracking

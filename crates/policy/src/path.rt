@@ -29,6 +29,7 @@ pub struct Link {
 const ROOT: Link = Link { back: ClassNo(0), state: StateNo(0) };
 
 /// The links held, numbered by their places.
+#[derive(Drop)]
 pub struct Links {
     rows: [Link; 4096],
     len: usize,
@@ -87,6 +88,7 @@ impl Links {
 }
 
 /// The policy that keeps the states on the way from state 0, loops cut out.
+#[derive(Drop)]
 pub struct Path {
     links: Links,
 }
