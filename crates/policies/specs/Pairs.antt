@@ -3,7 +3,8 @@ use mathlib.Core.List.{List, [], _∷_, map}
 use Prim.Native.Nat.{ℕ, _<_}
 use lib.ListN.{length}
 use Rattle.table.specs.Lists.{Distinct}
-use Rattle.theory.specs.Policies.{Class, left-class, right-class}
+use Rattle.finding.specs.Numbered.{Arrow}
+use Rattle.theory.specs.Policies.{Class, Meaning, left-class, right-class, both, Finer}
 use Rattle.theory.specs.Policies.Class.{pair}
 use Rattle.policy.specs.Classes.{Room, class-at, Tracks, HasPlace}
 use Rattle.policies.specs.declared.both.Pair.{Pair}
@@ -35,3 +36,8 @@ pub record Paired (cs ds : List Class) (rs : List Pair) : Type 0 where
   pub left : Tracks first-number cs rs
   pub right : Tracks second-number ds rs
   pub distinct : Distinct rs
+
+-- over any moves, the pair is finer than each half
+pub record FinerThanHalves (m n : Meaning) : Type 0 where
+  pub left : (moves : List Arrow) → Finer moves (both m n) m
+  pub right : (moves : List Arrow) → Finer moves (both m n) n

@@ -7,7 +7,7 @@ ghost use Prim.Native.Nat.{ℕ, _≤_};
 ghost use lib.ListN.{length, take};
 ghost use Rattle.theory.specs.Policies.{both};
 ghost use Rattle.policy.specs.Places.{Fixed, Placed, Placeable, EntryAt};
-ghost use Rattle.policies.specs.Pairs.{pair-of, pair-classes, pair-room, Paired};
+ghost use Rattle.policies.specs.Pairs.{pair-of, pair-classes, pair-room, Paired, FinerThanHalves};
 use policy::places;
 use policy::stacks::Policy;
 use table::numbers::ClassNo;
@@ -81,10 +81,11 @@ pub struct Both<P, Q> {
 }
 
 impl<P: Policy, Q: Policy> Both<P, Q> {
-    /// Stands over two policies; it is used from `clear` on.
+    /// Stands over two policies, and is finer than each; it is used from `clear` on.
     pub fn new(first: P, second: Q) -> Both<P, Q>
         ensures first { λ r. ⌜ r .first ≡ first ⌝ }
         ensures second { λ r. ⌜ r .second ≡ second ⌝ }
+        ensures finer { λ _. ⌜ FinerThanHalves (P·Policy .meaning (P·Policy .kind first)) (Q·Policy .meaning (Q·Policy .kind second)) ⌝ }
     {
         Both { first, second, pairs: Pairs::new() }
     }
