@@ -1,0 +1,7 @@
+pub mod Placing
+pub mod Taking
+pub mod Single
+pub mod Linked
+pub mod LinkTaking
+pub mod Mapped
+pub mod Tracking
