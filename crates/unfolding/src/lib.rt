@@ -1,0 +1,2 @@
+//! The unfolded machine: each state once for each class of the stacks that lead to it.
+pub mod moves;
