@@ -1,2 +1,3 @@
 pub mod Seeking
 pub mod Noding
+pub mod Answering

@@ -1,7 +1,7 @@
 //! The nodes as a space to search: a node moves where its state moves, to the policy's next class.
 ghost use mathlib.Core.List.{List};
 ghost use Prim.Native.Nat.{ℕ};
-ghost use denote.Ref.{now};
+ghost use denote.Ref.{now, name};
 ghost use Rattle.finding.specs.Numbered.{Arrow};
 ghost use Rattle.theory.specs.Unfolding.{Node as MeantNode};
 ghost use Rattle.policy.specs.Classes.{Tracks};
@@ -18,20 +18,21 @@ use table::numbers::StateNo;
 
 /// The machine's moves, on symbols below a number, and the policy.
 #[derive(Drop)]
-pub struct Nodes<'a, P: Policy> {
-    pub moves: &'a [Move<StateNo>],
+pub struct Nodes<'m, 'p, P: Policy> {
+    pub moves: &'m [Move<StateNo>],
     pub symbols: u16,
-    pub policy: &'a mut P,
+    pub policy: &'p mut P,
 }
 
-pub impl<'a, P: Policy> Space for Nodes<'a, P> as NodesSpace {
+pub impl<'m, 'p, P: Policy> Space for Nodes<'m, 'p, P> as NodesSpace {
     type Entry = Node;
 
-    ghost Source = { List Arrow × ℕ × P·Policy .Kind };
+    // the moves, the number of symbols, and of the policy its kind and which one it is
+    ghost Source = { List Arrow × ℕ × P·Policy .Kind × ℕ };
 
     ghost Thing = { MeantNode };
 
-    ghost source = { λ s. (state-arrows (now (s .moves)), s .symbols, P·Policy .kind (now (s .policy))) };
+    ghost source = { λ s. (state-arrows (now (s .moves)), s .symbols, P·Policy .kind (now (s .policy)), name (s .policy)) };
 
     ghost sought = { λ k. node-search (P·Policy .meaning (k .2)) (P·Policy .room (k .2)) (k .0) (k .1) };
 

@@ -23,7 +23,7 @@ returns-in-Break-class g c =
     let held = g .P·Policy .held (s .policy .now) in
     rw (c .from-residual .ensures)
     (record {
-      source = λ i. (ms, s .symbols, c .next .ensures .kind i);
+      source = λ i. (ms, s .symbols, c .next .ensures .kind i, s .policy .name);
       answer = λ es k t r at e.
           let q = some-one (onward-made m ms (node-of held (c .args .e)) (c .args .x) (c .target-state .ensures)) e in
           subst (λ (n : MeantNode). Lacks (nodes-of held es) n × (node-search m (g .P·Policy .room kind) ms (s .symbols) .room (nodes-of held es) n → ⊥)) q
@@ -39,7 +39,7 @@ returns g c =
     let held = g .P·Policy .held (s .policy .now) in
     let after = g .P·Policy .held (c .next .last .self) in
     record {
-      source = λ i. (ms, s .symbols, c .next .ensures .kind i);
+      source = λ i. (ms, s .symbols, c .next .ensures .kind i, s .policy .name);
       answer = λ es k t r at e.
           let q = some-one (onward-made m ms (node-of held (c .args .e)) (c .args .x) (c .target-state .ensures)) e in
           let ready : List Node → Type 0 = λ fs. g .P·Policy .ready (c .next .last .self) × Tracks class-number after fs × Ordered ms (s .symbols) in
