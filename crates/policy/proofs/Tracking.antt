@@ -70,7 +70,7 @@ old-taken (new x s l f e) h = absurd (omega arith)
 
 -- ── the classes of entries ──
 
-map-same : {A B : Type 0} (f g : A → B) (es : List A) → ((k : ℕ) (e : A) → StandsAt es k e → f e ≡ g e) → map f es ≡ map g es
+pub map-same : {A B : Type 0} (f g : A → B) (es : List A) → ((k : ℕ) (e : A) → StandsAt es k e → f e ≡ g e) → map f es ≡ map g es
 map-same f g [] h = refl
 map-same f g (e ∷ es) h =
     let a : f e ≡ g e = h 0 e refl in
