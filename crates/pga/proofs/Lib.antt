@@ -1,0 +1,4 @@
+pub mod Lists
+pub mod Putting
+pub mod Arcs
+pub mod Written

@@ -1,0 +1,4 @@
+//! The acceptor file: its bytes, the check of a file, and its text.
+pub mod jump;
+pub mod output;
+pub mod writer;
