@@ -1,4 +1,6 @@
 //! The acceptor file: its bytes, the check of a file, and its text.
+pub mod check;
+pub mod fault;
 pub mod jump;
 pub mod output;
 pub mod writer;
