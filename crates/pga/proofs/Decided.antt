@@ -13,11 +13,11 @@ use Rattle.finding.specs.Numbered.{Arrow}
 use Rattle.finding.specs.Laws.{Rises}
 use Rattle.theory.specs.Flattening.{Acceptor, JumpLess}
 use Rattle.pga.specs.Files.{ArcFits, JumpFits, Fit}
-use Rattle.pga.specs.Reading.{numberAt, arcOf, jumpOf, decoded}
+use Rattle.pga.specs.Reading.{numberAt, decoded}
 use Rattle.pga.specs.Flaws.{Check, ends, RowRises, Passes, row, rows, header-checks, arc-checks, jump-checks, file-checks}
 use Rattle.pga.proofs.Judging.{all-left, all-right}
 use Rattle.pga.proofs.Counted.{all-made, each-made, order-next, made-in-order}
-use Rattle.pga.proofs.Decoding.{Framed}
+use Rattle.pga.proofs.Decoding.{Framed, arcOf, jumpOf}
 
 -- first by the first number, then by the second
 lex-chain : (a b c d e f : ℕ) → (a < c) ⊎ ((a ≡ c) × (b < d)) → (c < e) ⊎ ((c ≡ e) × (d < f)) → (a < e) ⊎ ((a ≡ e) × (b < f))

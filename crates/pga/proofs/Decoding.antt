@@ -17,10 +17,18 @@ use Rattle.book.proofs.Numbers.{numbers-bytes}
 use Rattle.finding.specs.Numbered.{Arrow}
 use Rattle.theory.specs.Flattening.{Acceptor, file-length}
 use Rattle.pga.specs.Files.{arc-numbers, jump-numbers, header-numbers, file-numbers, file-of}
-use Rattle.pga.specs.Reading.{numberAt, arcAt, jumpAt, arcOf, jumpOf, decoded}
+use Rattle.pga.specs.Reading.{numberAt, arcAt, jumpAt, decoded}
 use Rattle.pga.proofs.Lists.{joined-append, joined-map}
 use Rattle.pga.proofs.Arcs.{arc-bytes, jump-bytes}
 use Rattle.pga.proofs.Written.{file-parts, length-file}
+
+-- arc k of a file
+abbrev pub arcOf : List ℕ → ℕ → Arrow
+arcOf bytes k = arcAt bytes (15 + 6 * k)
+
+-- jump k of a file
+abbrev pub jumpOf : List ℕ → ℕ → ℕ × ℕ
+jumpOf bytes k = jumpAt bytes (15 + 6 * numberAt bytes 11 + 4 * k)
 
 -- mark, version and length are those of a file with the counts that it tells
 pub record Framed (bytes : List ℕ) : Type 0 where

@@ -8,3 +8,5 @@ pub mod Decoding
 pub mod Counted
 pub mod Decided
 pub mod Unique
+pub mod Text
+pub mod Listed

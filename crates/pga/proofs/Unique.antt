@@ -13,12 +13,12 @@ use Rattle.theory.specs.Flattening.{Acceptor}
 use Rattle.pga.specs.declared.fault.AcceptorFault.{AcceptorFault}
 use Rattle.pga.specs.declared.check.Header.{Header}
 use Rattle.pga.specs.Files.{file-of, Fit, IsFile}
-use Rattle.pga.specs.Reading.{numberAt, arcOf, jumpOf, decoded}
+use Rattle.pga.specs.Reading.{numberAt, decoded}
 use Rattle.pga.specs.Flaws.{Check, Passes, Fault, First, file-checks, FileFault}
 use Rattle.pga.specs.Flaws.Fault.{early, wrong}
 use Rattle.pga.specs.Flaws.First.{here, later}
 use Rattle.pga.specs.Checks.{Headed, WholeJudged, header, Checked, OnlyChecked}
-use Rattle.pga.proofs.Decoding.{Framed, framed-file, file-framed, file-decoded}
+use Rattle.pga.proofs.Decoding.{Framed, arcOf, jumpOf, framed-file, file-framed, file-decoded}
 use Rattle.pga.proofs.Decided.{passes-framed, passes-fit, fit-passes}
 
 module _ {bytes : List ℕ} where

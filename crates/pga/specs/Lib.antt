@@ -4,3 +4,4 @@ pub mod Reading
 pub mod Refusals
 pub mod Flaws
 pub mod Checks
+pub mod Listing

@@ -18,17 +18,17 @@ arcAt bytes at = (numberAt bytes at, numberAt bytes (at + 2), numberAt bytes (at
 abbrev pub jumpAt : List ℕ → ℕ → ℕ × ℕ
 jumpAt bytes at = (numberAt bytes at, numberAt bytes (at + 2))
 
--- arc k of a file
-abbrev pub arcOf : List ℕ → ℕ → Arrow
-arcOf bytes k = arcAt bytes (15 + 6 * k)
+-- the first n arcs from `start` on
+abbrev pub arcsAt : List ℕ → ℕ → ℕ → List Arrow
+arcsAt bytes start n = map (λ k. arcAt bytes (start + 6 * k)) (counting 0 n)
 
--- jump k of a file: the jumps stand after the arcs
-abbrev pub jumpOf : List ℕ → ℕ → ℕ × ℕ
-jumpOf bytes k = jumpAt bytes (15 + 6 * numberAt bytes 11 + 4 * k)
+-- the first n jumps from `start` on
+abbrev pub jumpsAt : List ℕ → ℕ → ℕ → List (ℕ × ℕ)
+jumpsAt bytes start n = map (λ k. jumpAt bytes (start + 4 * k)) (counting 0 n)
 
--- the acceptor of a file, read off its bytes
+-- the acceptor of a file, read off its bytes: arcs stand after the header, jumps after the arcs
 abbrev pub decoded : List ℕ → Acceptor
 decoded bytes =
     record { words = numberAt bytes 5; nodes = numberAt bytes 7; final = numberAt bytes 9
-           ; arcs = map (arcOf bytes) (counting 0 (numberAt bytes 11))
-           ; jumps = map (jumpOf bytes) (counting 0 (numberAt bytes 13)) }
+           ; arcs = arcsAt bytes 15 (numberAt bytes 11)
+           ; jumps = jumpsAt bytes (15 + 6 * numberAt bytes 11) (numberAt bytes 13) }

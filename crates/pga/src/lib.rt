@@ -2,5 +2,6 @@
 pub mod check;
 pub mod fault;
 pub mod jump;
+pub mod listing;
 pub mod output;
 pub mod writer;
