@@ -11,7 +11,7 @@ use Rattle.std.specs.declared.option.Option.{Option}
 use Rattle.std.specs.declared.option.Option.the-variants.{Some, None}
 use Rattle.table.specs.Lists.{StandsAt, Lacks, Distinct}
 use Rattle.table.specs.declared.numbers.ClassNo.{ClassNo}
-use Rattle.table.proofs.Lists.{stands-below, stands-same, stands-is, stands-some, stands-left, stands-push, stands-map, stands-unmap, mem-at, at-mem, distinct-one, distinct-push}
+use Rattle.table.proofs.Lists.{stands-below, stands-same, stands-is, stands-some, stands-left, stands-push, stands-map, stands-unmap, mem-at, at-mem, distinct-push}
 use Rattle.theory.specs.Policies.{Class, listed, cut-after}
 use Rattle.theory.specs.Policies.Class.{states}
 use Rattle.policy.specs.declared.path.Link.{Link}
@@ -21,23 +21,6 @@ use Rattle.policy.specs.Places.{Placed}
 use Rattle.policy.specs.Places.Placed.{old as p-old, new as p-new, full as p-full}
 use Rattle.policy.specs.Paths.{link, along, paths, path-classes, Chained, Met}
 use Rattle.policy.proofs.Linked.{cut-new, grown-push, paths-length, root-path, link-path, ends}
-
-pub chained-root : {ls : List Link} → ls ≡ link 0 0 ∷ [] → Chained ls
-chained-root {ls} e = subst Chained (sym e) alone
-  where
-    alone : Chained (link 0 0 ∷ [])
-    alone =
-        record {
-          root = refl;
-          behind = λ k l s h. let b = stands-below (link 0 0 ∷ []) k l s in absurd (omega arith);
-          simple = λ k ss s. simple k ss s;
-          distinct = distinct-one (0 ∷ []);
-        }
-      where
-        simple : (k : ℕ) (ss : List ℕ) → StandsAt ((0 ∷ []) ∷ []) k ss → Distinct ss
-        simple zero ss s = let e : 0 ∷ [] ≡ ss = cc in subst Distinct e (distinct-one 0)
-        simple (suc k) ss s = let z : _≡_ {A = ℕ} 0 1 = cc in absurd (omega arith)
-
 
 abbrev onward : ℕ → Class → Class
 onward t d = states (cut-after (listed d) t)

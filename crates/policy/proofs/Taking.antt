@@ -10,7 +10,7 @@ use Rattle.table.specs.Lists.{StandsAt, Lacks, Distinct}
 use Rattle.table.specs.declared.numbers.ClassNo.{ClassNo}
 use Rattle.table.proofs.Lists.{stands-below, stands-same}
 use Rattle.theory.specs.Policies.{Class}
-use Rattle.policy.specs.Classes.{Room, Taken}
+use Rattle.policy.specs.Classes.{Room, no-room, Taken}
 use Rattle.policy.specs.Classes.Taken.{old, new, unheld, no-place}
 
 pub class-same : (i j : ClassNo) → i .0 ≡ j .0 → i ≡ j
@@ -48,3 +48,10 @@ module _ (held : List Class) (onward : Class → Class) (i : ℕ) where
   taken-same {room} d (no-place c s l f) (new e t m g q) = absurd (f (subst (room held) (sym (one s t)) g))
   taken-same d (no-place c s l f) (unheld p) = (refl, refl)
   taken-same d (no-place c s l f) (no-place e t m g) = (refl, refl)
+
+-- where no new class has a place, nothing is taken
+pub none-new : {held : List Class} {onward : Class → Class} {i : ℕ} {r : Option ClassNo} {h : List Class} → Taken no-room held onward i r h → Taken no-room held onward i r held
+none-new (old c s a) = old c s a
+none-new (new c s l f q) = absurd f
+none-new (unheld p) = unheld p
+none-new (no-place c s l f) = no-place c s l f

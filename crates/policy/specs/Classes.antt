@@ -20,6 +20,10 @@ Room = List Class → Class → Type 0
 abbrev pub free-place : Room
 free-place held c = length held < 4096
 
+-- no new class has a place
+abbrev pub no-room : Room
+no-room held c = ⊥
+
 -- the class after a pair is pushed: the state left and the symbol, on the way to the state reached
 abbrev pub pushed : Meaning → ℕ → ℕ → ℕ → Class → Class
 pushed m left symbol reached c = m .next c left symbol reached

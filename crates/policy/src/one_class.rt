@@ -2,6 +2,7 @@
 ghost use mathlib.Core.List.{[], _∷_};
 ghost use Rattle.theory.specs.Policies.{one-class};
 ghost use Rattle.theory.specs.Policies.Class.{states};
+ghost use Rattle.policy.specs.Classes.{no-room};
 use crate::stacks::Policy;
 use table::numbers::ClassNo;
 use table::numbers::StateNo;
@@ -17,7 +18,7 @@ pub impl Policy for OneClass as OneClassPolicy {
 
     ghost meaning = { λ _. one-class };
 
-    ghost room = { λ _ _ _. ⊥ };
+    ghost room = { λ _. no-room };
 
     ghost held = { λ _. states [] ∷ [] };
 
@@ -29,7 +30,7 @@ pub impl Policy for OneClass as OneClassPolicy {
         if class.0 == 0 { Some(class) } else { None }
     }
 
-    fn next(&mut self, class: ClassNo, _state: StateNo, _symbol: u16, _reached: StateNo) -> Option<ClassNo> {
-        if class.0 == 0 { Some(class) } else { None }
+    fn next(&mut self, class: ClassNo, state: StateNo, symbol: u16, reached: StateNo) -> Option<ClassNo> {
+        self.fits(class, state, symbol, reached)
     }
 }
