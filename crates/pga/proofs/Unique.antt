@@ -56,7 +56,7 @@ module _ (bytes : List ℕ) (small : All (λ b. b < 256) bytes) where
   header-is h k =
       let arcs = k .arcs ∙ sym (length-map-counting (arcOf bytes) 0 (numberAt bytes 11)) in
       let jumps = k .jumps ∙ sym (length-map-counting (jumpOf bytes) 0 (numberAt bytes 13)) in
-      λ i. record { words = k .words i; nodes = k .nodes i; last = k .last i; arcs = arcs i; jumps = jumps i }
+      λ i. record { words = k .words i; nodes = k .nodes i; «final_node» = k .final i; arcs = arcs i; jumps = jumps i }
 
   pub checked : (r : Result Header AcceptorFault) → WholeJudged bytes r → Checked bytes r
   checked (Ok h) (a, k) = (passes-file a, header-is h k)

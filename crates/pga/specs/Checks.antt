@@ -35,7 +35,7 @@ pub record Headed (bytes : List ℕ) (h : Header) : Type 0 where
   pub sound : All (Passes bytes) (header-checks bytes)
   pub words : h .words ≡ numberAt bytes 5
   pub nodes : h .nodes ≡ numberAt bytes 7
-  pub last : h .last ≡ numberAt bytes 9
+  pub final : h .«final_node» ≡ numberAt bytes 9
   pub arcs : h .arcs ≡ numberAt bytes 11
   pub jumps : h .jumps ≡ numberAt bytes 13
 
@@ -50,7 +50,7 @@ WholeJudged bytes (Err f) = FileFault bytes (refusal f)
 
 -- the numbers in front of an acceptor's arcs
 abbrev pub header : Acceptor → Header
-header a = record { words = a .words; nodes = a .nodes; last = a .final; arcs = length (a .arcs); jumps = length (a .jumps) }
+header a = record { words = a .words; nodes = a .nodes; «final_node» = a .final; arcs = length (a .arcs); jumps = length (a .jumps) }
 
 -- the bytes are the file of the acceptor that is read off them, with these numbers, or this is their first fault
 abbrev pub Checked : List ℕ → Result Header AcceptorFault → Type 0

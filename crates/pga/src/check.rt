@@ -8,27 +8,22 @@ ghost use Rattle.pga.specs.Reading.{numberAt};
 ghost use Rattle.pga.specs.Flaws.{marked, RowRises, fields, row};
 ghost use Rattle.pga.specs.Checks.{Judged, NumberJudged, RowsJudged, HeaderJudged, WholeJudged, Checked, OnlyChecked};
 use super::fault::AcceptorFault;
-use super::writer::MARK;
-use super::writer::VERSION;
+use super::format::ARCS_AT;
+use super::format::MARK;
+use super::format::MOST_NODES;
+use super::format::MOST_ROWS;
+use super::format::MOST_WORDS;
+use super::format::VERSION;
 
 /// The numbers in front of the arcs: words, nodes, the final node, arcs and jumps.
 #[derive(Clone, Copy, PartialEq, Eq, Debug)]
 pub struct Header {
     pub words: usize,
     pub nodes: usize,
-    pub last: usize,
+    pub final_node: usize,
     pub arcs: usize,
     pub jumps: usize,
 }
-
-/// The most words that an acceptor may have.
-const MOST_WORDS: usize = 1024;
-
-/// The most nodes.
-const MOST_NODES: usize = 4096;
-
-/// The most arcs, and the most jumps.
-const MOST_ROWS: usize = 16384;
 
 /// The number in the two bytes at `at`.
 pub fn number_at(file: &[u8], at: usize) -> usize
@@ -123,10 +118,10 @@ fn check_header(file: &[u8]) -> Result<Header, AcceptorFault>
     in_range(file, 3, VERSION as usize, VERSION as usize + 1)?;
     let words = in_range(file, 5, 1, MOST_WORDS + 1)?;
     let nodes = in_range(file, 7, 1, MOST_NODES + 1)?;
-    let last = in_range(file, 9, 0, nodes)?;
+    let final_node = in_range(file, 9, 0, nodes)?;
     let arcs = in_range(file, 11, 0, MOST_ROWS + 1)?;
     let jumps = in_range(file, 13, 0, MOST_ROWS + 1)?;
-    Ok(Header { words, nodes, last, arcs, jumps })
+    Ok(Header { words, nodes, final_node, arcs, jumps })
 }
 
 /// The whole file in byte order: the header, the arcs, the jumps, the length.
@@ -134,8 +129,8 @@ fn check_parts(file: &[u8]) -> Result<Header, AcceptorFault>
     ensures { λ r. ⌜ WholeJudged (now (file .entry)) r ⌝ }
 {
     let header = check_header(file)?;
-    let Header { words, nodes, last: _, arcs, jumps } = header;
-    let jumps_at = check_rows(file, 15, &[nodes, words, nodes], arcs)?;
+    let Header { words, nodes, final_node: _, arcs, jumps } = header;
+    let jumps_at = check_rows(file, ARCS_AT, &[nodes, words, nodes], arcs)?;
     let end = check_rows(file, jumps_at, &[nodes, nodes], jumps)?;
     if file.len() > end {
         return Err(AcceptorFault { place: end });

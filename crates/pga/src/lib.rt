@@ -1,7 +1,8 @@
 //! The acceptor file: its bytes, the check of a file, and its text.
 pub mod check;
 pub mod fault;
+mod format;
 pub mod jump;
 pub mod listing;
-pub mod output;
+mod output;
 pub mod writer;

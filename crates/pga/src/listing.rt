@@ -14,6 +14,9 @@ use super::check::check_file;
 use super::check::number_at;
 use super::fault::ListFault;
 use super::fault::ListFaultFromFile;
+use super::format::ARC_SIZE;
+use super::format::ARCS_AT;
+use super::format::JUMP_SIZE;
 use super::output::put_byte;
 
 /// What a compile counts: states, moves, nodes, unfolded moves, arcs and jumps.
@@ -62,7 +65,7 @@ fn put_arc_lines(out: &mut [u8], at: usize, file: &[u8], start: usize, count: us
 {
     let mut end = at;
     for k in 0..count {
-        let arc = start + 6 * k;
+        let arc = start + ARC_SIZE * k;
         end = put_line(out, end, number_at(file, arc), &[number_at(file, arc + 2), number_at(file, arc + 4)]);
     }
     end
@@ -75,7 +78,7 @@ fn put_jump_lines(out: &mut [u8], at: usize, file: &[u8], start: usize, count: u
 {
     let mut end = at;
     for k in 0..count {
-        let jump = start + 4 * k;
+        let jump = start + JUMP_SIZE * k;
         end = put_line(out, end, number_at(file, jump), &[number_at(file, jump + 2)]);
     }
     end
@@ -88,8 +91,8 @@ fn put_text(out: &mut [u8], counts: Counts, file: &[u8], header: Header) -> usiz
 {
     let Counts { states, moves, nodes, unfolded, arcs, jumps } = counts;
     let arcs_at = put_line(out, 0, states, &[moves, nodes, unfolded, arcs, jumps]);
-    let jumps_at = put_arc_lines(out, arcs_at, file, 15, header.arcs);
-    put_jump_lines(out, jumps_at, file, 15 + 6 * header.arcs, header.jumps)
+    let jumps_at = put_arc_lines(out, arcs_at, file, ARCS_AT, header.arcs);
+    put_jump_lines(out, jumps_at, file, ARCS_AT + ARC_SIZE * header.arcs, header.jumps)
 }
 
 /// Writes the text of a file's acceptor under these counts; the length used.

@@ -9,16 +9,15 @@ ghost use Rattle.book.specs.Files.{bytes-of};
 ghost use Rattle.theory.specs.Flattening.{word-moves};
 ghost use Rattle.pga.specs.Files.{arc-numbers, jump-numbers};
 ghost use Rattle.pga.specs.Writing.{Put, arrows, pairs, acceptor, Written};
+use super::format::ARC_SIZE;
+use super::format::ARCS_AT;
+use super::format::JUMP_SIZE;
+use super::format::MARK;
+use super::format::VERSION;
 use super::jump::Jump;
 use super::output::put_numbers;
 use finding::moves::Move;
 use table::numbers::NodeNo;
-
-/// The mark of an acceptor file, which its version follows.
-pub const MARK: [u8; 3] = *b"PGA";
-
-/// The version of the files that are read and written.
-pub const VERSION: u16 = 1;
 
 /// The output is too short: so many bytes are needed.
 #[derive(Clone, Copy, PartialEq, Eq, Debug)]
@@ -32,7 +31,7 @@ pub struct OutputShort {
 pub struct Parts<'a> {
     pub words: u16,
     pub nodes: u16,
-    pub last: NodeNo,
+    pub final_node: NodeNo,
     pub moves: &'a [Move<NodeNo>],
     pub jumps: &'a [Jump],
 }
@@ -79,16 +78,16 @@ fn put_jumps(out: &mut [u8], at: usize, jumps: &[Jump]) -> usize
 /// Writes the file of an acceptor; the length used.
 pub fn write(parts: Parts, out: &mut [u8]) -> Result<usize, OutputShort>
     requires { ⌜ (length (now (parts .moves)) ≤ 16384) × (length (now (parts .jumps)) ≤ 16384) ⌝ }
-    ensures { λ r. ⌜ Written (acceptor (parts .entry .words) (parts .entry .nodes) (parts .entry .last) (now (parts .entry .moves)) (now (parts .entry .jumps))) (now (out .entry)) r (now (out .exit)) ⌝ }
+    ensures { λ r. ⌜ Written (acceptor (parts .entry .words) (parts .entry .nodes) (parts .entry .«final_node») (now (parts .entry .moves)) (now (parts .entry .jumps))) (now (out .entry)) r (now (out .exit)) ⌝ }
 {
     let arcs = count_arcs(parts.words, parts.moves);
     let jumps = parts.jumps.len();
-    let needed = 15 + 6 * arcs + 4 * jumps;
+    let needed = ARCS_AT + ARC_SIZE * arcs + JUMP_SIZE * jumps;
     if out.len() < needed {
         return Err(OutputShort { needed });
     }
     out[0..3].copy_from_slice(&MARK);
-    let header = [VERSION, parts.words, parts.nodes, parts.last.0, arcs as u16, jumps as u16];
+    let header = [VERSION, parts.words, parts.nodes, parts.final_node.0, arcs as u16, jumps as u16];
     let arcs_at = put_numbers(out, 3, &header);
     let jumps_at = put_arcs(out, arcs_at, parts.words, parts.moves);
     Ok(put_jumps(out, jumps_at, parts.jumps))

@@ -28,13 +28,13 @@ returns-in-Break-nodes c =
     (later (c .in-Continue-check-mark .ensures tt .0) (later (c .in-Continue-in-range .ensures tt .0) (later (c .in-Continue-words .ensures tt .0)
       (here (c .in-Break-nodes .ensures tt)))))
 
-pub returns-in-Break-last : need.returns-in-Break-last
-returns-in-Break-last c =
-    let p = err-from-errBy (c .from-residual-in-Break-last .result) (c .from-residual-in-Break-last .ensures .1) in
+pub returns-in-Break-final-node : need.returns-in-Break-final-node
+returns-in-Break-final-node c =
+    let p = err-from-errBy (c .from-residual-in-Break-final-node .result) (c .from-residual-in-Break-final-node .ensures .1) in
     let nodes = c .in-Continue-nodes .ensures tt in
     rw (p .1, p .2)
     (later (c .in-Continue-check-mark .ensures tt .0) (later (c .in-Continue-in-range .ensures tt .0) (later (c .in-Continue-words .ensures tt .0) (later (nodes .0)
-      (here (subst (λ n. Fault (c .args .file .now) (ranged 9 0 n) (refusal (c .in-Break-last .field-0 .0))) (nodes .1) (c .in-Break-last .ensures tt)))))))
+      (here (subst (λ n. Fault (c .args .file .now) (ranged 9 0 n) (refusal (c .in-Break-final-node .field-0 .0))) (nodes .1) (c .in-Break-final-node .ensures tt)))))))
 
 pub returns-in-Break-arcs : need.returns-in-Break-arcs
 returns-in-Break-arcs c =
@@ -42,7 +42,7 @@ returns-in-Break-arcs c =
     let nodes = c .in-Continue-nodes .ensures tt in
     rw (p .1, p .2)
     (later (c .in-Continue-check-mark .ensures tt .0) (later (c .in-Continue-in-range .ensures tt .0) (later (c .in-Continue-words .ensures tt .0) (later (nodes .0)
-      (later (subst (λ n. Passes (c .args .file .now) (ranged 9 0 n)) (nodes .1) (c .in-Continue-last .ensures tt .0)) (here (c .in-Break-arcs .ensures tt)))))))
+      (later (subst (λ n. Passes (c .args .file .now) (ranged 9 0 n)) (nodes .1) (c .in-Continue-final-node .ensures tt .0)) (here (c .in-Break-arcs .ensures tt)))))))
 
 pub returns-in-Break-jumps : need.returns-in-Break-jumps
 returns-in-Break-jumps c =
@@ -50,5 +50,5 @@ returns-in-Break-jumps c =
     let nodes = c .in-Continue-nodes .ensures tt in
     rw (p .1, p .2)
     (later (c .in-Continue-check-mark .ensures tt .0) (later (c .in-Continue-in-range .ensures tt .0) (later (c .in-Continue-words .ensures tt .0) (later (nodes .0)
-      (later (subst (λ n. Passes (c .args .file .now) (ranged 9 0 n)) (nodes .1) (c .in-Continue-last .ensures tt .0)) (later (c .in-Continue-arcs .ensures tt .0)
+      (later (subst (λ n. Passes (c .args .file .now) (ranged 9 0 n)) (nodes .1) (c .in-Continue-final-node .ensures tt .0)) (later (c .in-Continue-arcs .ensures tt .0)
         (here (c .in-Break-jumps .ensures tt))))))))

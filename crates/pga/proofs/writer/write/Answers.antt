@@ -38,10 +38,10 @@ put-jumps-requires c κs =
 pub returns : need.returns
 returns c =
     let p = c .args .parts in
-    let a = acceptor (c .args .parts .words) (c .args .parts .nodes) (c .args .parts .last) (c .args .parts .moves .now) (c .args .parts .jumps .now) in
+    let a = acceptor (c .args .parts .words) (c .args .parts .nodes) (c .args .parts .«final_node») (c .args .parts .moves .now) (c .args .parts .jumps .now) in
     let arcs = c .count-arcs-arcs .ensures in
     let jumps = length-map (c .args .parts .jumps .now) pair in
-    let header : List ℕ = 1 ∷ (p .words ∷ (p .nodes ∷ (p .last .0 ∷ (c .count-arcs-arcs .result ∷ (length (p .jumps .now) ∷ []))))) in
+    let header : List ℕ = 1 ∷ (p .words ∷ (p .nodes ∷ (p .«final_node» .0 ∷ (c .count-arcs-arcs .result ∷ (length (p .jumps .now) ∷ []))))) in
     let same : header ≡ header-numbers a = cc in
     file-written a (c .args .out .now) (c .put-jumps .last .out) (c .put-jumps .result) (omega arith)
     (file-put a header (c .args .out .now) _ (c .put-numbers-arcs-at .last .out) (c .put-arcs-jumps-at .last .out) (c .put-jumps .last .out) _ _ _ same
