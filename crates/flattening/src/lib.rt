@@ -1,0 +1,3 @@
+//! Flattening: the arcs, the jumps and the final node of an acceptor, from the moves of an unfolded machine.
+pub mod lookup;
+pub mod ordered;
