@@ -1,2 +1,4 @@
 pub mod Halving
 pub mod Targets
+pub mod Inserting
+pub mod Tables
