@@ -2,3 +2,4 @@ pub mod Halving
 pub mod Targets
 pub mod Inserting
 pub mod Tables
+pub mod Walking

@@ -1,3 +1,4 @@
 pub mod Places
 pub mod Orders
 pub mod Keeping
+pub mod Walks

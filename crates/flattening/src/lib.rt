@@ -3,3 +3,4 @@ pub mod jump;
 pub mod kept;
 pub mod lookup;
 pub mod ordered;
+pub mod walk;

@@ -1,0 +1,32 @@
+-- The right sides of rules as the items spell them, and the jumps that they give.
+use mathlib.Core.Path.{_≡_}
+use mathlib.Core.Logic.{_↔_, _⊎_}
+use mathlib.Core.List.{List, [], _∷_, map, List·Memᴰ}
+use Prim.Native.Nat.{ℕ, _+_, _-_, _≤_, _<_}
+use lib.ListN.{getD}
+use Rattle.table.specs.declared.numbers.NodeNo.{NodeNo}
+use Rattle.finding.specs.declared.moves.Move.{Move}
+use Rattle.finding.specs.Numbered.{Arrow}
+use Rattle.finding.specs.Finding.{arrow}
+use Rattle.theory.specs.Flattening.{Leads}
+use Rattle.machine.specs.declared.items.Items.{Items}
+use Rattle.machine.specs.Index.{Chain}
+use Rattle.flattening.specs.declared.jump.Jump.{Jump}
+use Rattle.flattening.specs.declared.kept.JumpTable.{JumpTable}
+use Rattle.flattening.specs.Orders.{pair}
+use Rattle.flattening.specs.Keeping.{Keeps}
+
+-- the moves between nodes as plain numbers
+abbrev pub arrows : List (Move NodeNo) → List Arrow
+arrows moves = map (arrow (λ n. n .0)) moves
+
+-- the symbols after the dots from item k on are xs, and then none follows
+pub data Spells (after : List ℕ) : ℕ → List ℕ → Type 0 where
+  end : {k : ℕ} → k < 4096 → getD after k 0 ≡ 65535 → Spells after k []
+  more : {k x : ℕ} {xs : List ℕ} → k < 4096 → getD after k 0 ≡ x → x < 65535 → Spells after (k + 1) xs → Spells after k (x ∷ xs)
+
+-- the moves lead from q to p over the right side of the rule whose first item is n
+pub record Ends (after : List ℕ) (moves : List Arrow) (q n p : ℕ) : Type 0 where
+  pub side : List ℕ
+  pub spells : Spells after n side
+  pub leads : Leads moves q side p
