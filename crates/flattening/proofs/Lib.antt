@@ -3,3 +3,4 @@ pub mod Targets
 pub mod Inserting
 pub mod Tables
 pub mod Walking
+pub mod Chains

@@ -16,7 +16,10 @@ use Rattle.flattening.specs.declared.kept.JumpTable.{JumpTable}
 use Rattle.flattening.specs.Orders.{pair}
 use Rattle.flattening.specs.Keeping.{Keeps}
 
--- the moves between nodes as plain numbers
+-- moves between nodes as plain numbers
+abbrev pub plain : Move NodeNo → Arrow
+plain m = arrow (λ n. n .0) m
+
 abbrev pub arrows : List (Move NodeNo) → List Arrow
 arrows moves = map (arrow (λ n. n .0)) moves
 
@@ -30,3 +33,23 @@ pub record Ends (after : List ℕ) (moves : List Arrow) (q n p : ℕ) : Type 0 w
   pub side : List ℕ
   pub spells : Spells after n side
   pub leads : Leads moves q side p
+
+-- the rules of the name of the move m, by their first items, and where the node left leads over each of them
+pub record Opened (items : Items) (moves : List Arrow) (m : Arrow) : Type 0 where
+  pub numbers : List ℕ
+  pub known : m .1 - items .words < 1024
+  pub chain : Chain (items .next) (getD (items .head) (m .1 - items .words) 0) numbers
+  pub ends : (n : ℕ) → List·Memᴰ n numbers → (p : ℕ) × Ends (items .after) moves (m .0) n p
+
+-- a rule of these gives the jump j: from where the node left leads over it, to where m leads
+pub record Gives (after : List ℕ) (moves : List Arrow) (m : Arrow) (numbers : List ℕ) (j : ℕ × ℕ) : Type 0 where
+  pub first : ℕ
+  pub among : List·Memᴰ first numbers
+  pub ends : Ends after moves (m .0) first (j .0)
+  pub to : j .1 ≡ m .2
+
+-- the table keeps what was found, and the jumps that P names
+pub record PutMore (found : List Jump) (P : ℕ × ℕ → Type 0) (t : JumpTable) : Type 0 where
+  pub jumps : List Jump
+  pub keeps : Keeps jumps t
+  pub are : (j : Jump) → List·Memᴰ j jumps ↔ (List·Memᴰ j found ⊎ P (pair j))

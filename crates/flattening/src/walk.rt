@@ -5,7 +5,11 @@ ghost use Prim.Native.Nat.{ℕ, _≤_, _<_};
 ghost use denote.Ref.{name};
 ghost use Rattle.table.specs.Lists.{InOrder};
 ghost use Rattle.finding.specs.Laws.{Rises};
-ghost use Rattle.flattening.specs.Walks.{arrows, Ends};
+ghost use Rattle.flattening.specs.declared.jump.Jump.{Jump as JumpOf};
+ghost use Rattle.flattening.specs.Keeping.{Keeps};
+ghost use Rattle.flattening.specs.Walks.{plain, arrows, Ends, Opened, Gives, PutMore};
+use crate::jump::Jump;
+use crate::kept::JumpTable;
 use crate::lookup::find_move;
 use finding::moves::Move;
 use machine::items::Items;
@@ -27,4 +31,24 @@ fn walk(items: &Items, moves: &[Move<NodeNo>], from: NodeNo, first: usize) -> No
         k += 1;
     }
     at
+}
+
+/// Puts the jumps that the rules of a name give, for a move over the name.
+fn put_over(items: &Items, moves: &[Move<NodeNo>], over: Move<NodeNo>, table: &mut JumpTable)
+    requires rising { ⌜ InOrder Rises (arrows (now moves)) ⌝ }
+    requires named { ⌜ now items .words ≤ over .symbol ⌝ }
+    requires opened { ⌜ Opened (now items) (arrows (now moves)) (plain over) ⌝ }
+    requires keeps { ⌜ ((found : List JumpOf) × Keeps found (now table)) ⌝ }
+    ensures lent { λ _. ⌜ name (now (table .exit) .rows) ≡ name (now (table .entry) .rows) ⌝ }
+    ensures limit { λ _. ⌜ now (table .exit) .limit ≡ now (table .entry) .limit ⌝ }
+    ensures more { λ _. ⌜ ((found : List JumpOf) (o : Opened (now (items .entry)) (arrows (now (moves .entry))) (plain over)) → Keeps found (now (table .entry))
+        → PutMore found (Gives (now (items .entry) .after) (arrows (now (moves .entry))) (plain over) (o .numbers)) (now (table .exit))) ⌝ }
+{
+    let name = over.symbol as usize - items.words;
+    let mut first = items.head[name];
+    while first != 0 {
+        let from = walk(items, moves, over.from, first as usize);
+        table.put(Jump { from, to: over.to });
+        first = items.next[first as usize];
+    }
 }
