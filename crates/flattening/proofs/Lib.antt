@@ -4,3 +4,4 @@ pub mod Inserting
 pub mod Tables
 pub mod Walking
 pub mod Chains
+pub mod Gathering

@@ -53,3 +53,16 @@ pub record PutMore (found : List Jump) (P : ℕ × ℕ → Type 0) (t : JumpTabl
   pub jumps : List Jump
   pub keeps : Keeps jumps t
   pub are : (j : Jump) → List·Memᴰ j jumps ↔ (List·Memᴰ j found ⊎ P (pair j))
+
+-- one of the moves `some` is over a name, and a rule of that name gives the jump j
+pub record Given (items : Items) (moves some : List Arrow) (j : ℕ × ℕ) : Type 0 where
+  pub move : Arrow
+  pub among : List·Memᴰ move some
+  pub named : items .words ≤ move .1
+  pub numbers : List ℕ
+  pub chain : Chain (items .next) (getD (items .head) (move .1 - items .words) 0) numbers
+  pub gives : Gives (items .after) moves move numbers j
+
+-- each move over a name has the rules of the name, and ways over them
+abbrev pub AllOpened : Items → List Arrow → Type 0
+AllOpened items moves = (m : Arrow) → List·Memᴰ m moves → items .words ≤ m .1 → Opened items moves m

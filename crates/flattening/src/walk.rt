@@ -7,7 +7,7 @@ ghost use Rattle.table.specs.Lists.{InOrder};
 ghost use Rattle.finding.specs.Laws.{Rises};
 ghost use Rattle.flattening.specs.declared.jump.Jump.{Jump as JumpOf};
 ghost use Rattle.flattening.specs.Keeping.{Keeps};
-ghost use Rattle.flattening.specs.Walks.{plain, arrows, Ends, Opened, Gives, PutMore};
+ghost use Rattle.flattening.specs.Walks.{plain, arrows, Ends, Opened, AllOpened, Gives, Given, PutMore};
 use crate::jump::Jump;
 use crate::kept::JumpTable;
 use crate::lookup::find_move;
@@ -50,5 +50,21 @@ fn put_over(items: &Items, moves: &[Move<NodeNo>], over: Move<NodeNo>, table: &m
         let from = walk(items, moves, over.from, first as usize);
         table.put(Jump { from, to: over.to });
         first = items.next[first as usize];
+    }
+}
+
+/// Puts all jumps into a table without a jump: those that the rules of each name give, for each move over it.
+fn put_all(items: &Items, moves: &[Move<NodeNo>], table: &mut JumpTable)
+    requires rising { ⌜ InOrder Rises (arrows (now moves)) ⌝ }
+    requires opened { ⌜ AllOpened (now items) (arrows (now moves)) ⌝ }
+    requires none { ⌜ Keeps [] (now table) ⌝ }
+    ensures lent { λ _. ⌜ name (now (table .exit) .rows) ≡ name (now (table .entry) .rows) ⌝ }
+    ensures limit { λ _. ⌜ now (table .exit) .limit ≡ now (table .entry) .limit ⌝ }
+    ensures all { λ _. ⌜ PutMore [] (Given (now (items .entry)) (arrows (now (moves .entry))) (arrows (now (moves .entry)))) (now (table .exit)) ⌝ }
+{
+    for over in moves {
+        if over.symbol as usize >= items.words {
+            put_over(items, moves, *over, table);
+        }
     }
 }
