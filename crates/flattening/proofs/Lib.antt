@@ -5,3 +5,6 @@ pub mod Tables
 pub mod Walking
 pub mod Chains
 pub mod Gathering
+pub mod Linking
+pub mod Counting
+pub mod Telling

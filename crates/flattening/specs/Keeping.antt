@@ -6,7 +6,10 @@ use Prim.Native.Nat.{ℕ, _≤_}
 use lib.ListN.{length, take}
 use Rattle.std.specs.declared.option.Option.{Option}
 use Rattle.std.specs.declared.option.Option.the-variants.{Some, None}
+use Rattle.std.specs.declared.result.Result.{Result}
+use Rattle.std.specs.declared.result.Result.the-variants.{Ok, Err}
 use Rattle.table.specs.Lists.{StandsAt, Lacks, InOrder}
+use Rattle.flattening.specs.declared.fault.JumpFault.{JumpFault}
 use Rattle.flattening.specs.declared.jump.Jump.{Jump}
 use Rattle.flattening.specs.declared.kept.JumpTable.{JumpTable}
 use Rattle.flattening.specs.Orders.{Before}
@@ -34,3 +37,8 @@ PastRows t j = (t .len ≡ t .limit) × ((k : ℕ) (r : Jump) → StandsAt (take
 -- j stands in no row, and its place is i
 abbrev pub New : JumpTable → Jump → ℕ → Type 0
 New t j i = PlaceOf Before (take (t .len) (t .rows .now)) j i × Lacks (take (t .len) (t .rows .now)) j
+
+-- how many rows are in use, or where the jump comes from that has no row
+abbrev pub Counted : JumpTable → Result ℕ JumpFault → Type 0
+Counted t (Ok n) = (t .beyond ≡ None) × (n ≡ t .len)
+Counted t (Err f) = (j : Jump) × (t .beyond ≡ Some j) × (f .from ≡ j .from)

@@ -9,7 +9,8 @@ ghost use Rattle.table.specs.Lists.{StandsAt, Lacks};
 ghost use Rattle.flattening.specs.declared.jump.Jump.{Jump as JumpOf};
 ghost use Rattle.flattening.specs.Orders.{Before};
 ghost use Rattle.flattening.specs.Places.{PlaceOf};
-ghost use Rattle.flattening.specs.Keeping.{Keeps, PastRows, New};
+ghost use Rattle.flattening.specs.Keeping.{Keeps, PastRows, New, Counted};
+use crate::fault::JumpFault;
 use crate::jump::Jump;
 use crate::jump::JumpOrdered;
 use crate::jump::JumpPartialEq;
@@ -107,5 +108,15 @@ impl<'a> JumpTable<'a> {
             }
         }
         self.insert(at, jump);
+    }
+
+    /// How many jumps there are, or the fault where there are more than have rows.
+    pub fn count(&self) -> Result<usize, JumpFault>
+        ensures { λ r. ⌜ Counted (now (self .entry)) r ⌝ }
+    {
+        match self.beyond {
+            Some(jump) => Err(JumpFault { from: jump.from }),
+            None => Ok(self.len),
+        }
     }
 }

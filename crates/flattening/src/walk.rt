@@ -54,7 +54,7 @@ fn put_over(items: &Items, moves: &[Move<NodeNo>], over: Move<NodeNo>, table: &m
 }
 
 /// Puts all jumps into a table without a jump: those that the rules of each name give, for each move over it.
-fn put_all(items: &Items, moves: &[Move<NodeNo>], table: &mut JumpTable)
+pub fn put_all(items: &Items, moves: &[Move<NodeNo>], table: &mut JumpTable)
     requires rising { ⌜ InOrder Rises (arrows (now moves)) ⌝ }
     requires opened { ⌜ AllOpened (now items) (arrows (now moves)) ⌝ }
     requires none { ⌜ Keeps [] (now table) ⌝ }
