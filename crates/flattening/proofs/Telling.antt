@@ -13,16 +13,19 @@ use Rattle.table.specs.declared.numbers.NodeNo.{NodeNo}
 use Rattle.table.specs.Lists.{StandsAt, InOrder}
 use Rattle.table.proofs.Lists.{mem-at, at-mem, stands-map, stands-unmap}
 use Rattle.finding.specs.Numbered.{Arrow}
-use Rattle.theory.specs.Flattening.{Jump as JumpFrom, JumpLess}
+use Rattle.theory.specs.Flattening.{Jump as JumpFrom, JumpLess, word-moves}
+use Rattle.theory.specs.Unfolding.{FinalNode}
+use Rattle.theory.proofs.Arcs.{word-moves-are, word-moves-rise}
 use Rattle.machine.specs.declared.items.Items.{Items}
 use Rattle.flattening.specs.declared.fault.JumpFault.{JumpFault}
 use Rattle.flattening.specs.declared.jump.Jump.{Jump}
 use Rattle.flattening.specs.declared.kept.JumpTable.{JumpTable}
+use Rattle.flattening.specs.declared.flat.FlatSummary.{FlatSummary}
 use Rattle.flattening.specs.Orders.{pair, Before}
 use Rattle.flattening.specs.Keeping.{At, Keeps, Counted}
 use Rattle.flattening.specs.Walks.{Given, PutMore}
-use Rattle.flattening.specs.Flat.{Unfolding, JumpsOf, told, Told, JumpsFound}
-use Rattle.flattening.proofs.Linking.{jumps-are}
+use Rattle.flattening.specs.Flat.{Unfolding, JumpsOf, told, Told, JumpsFound, FlatIn}
+use Rattle.flattening.proofs.Linking.{moves-rise, jumps-are}
 
 pairs-rise : (all : List Jump) → InOrder Before all → InOrder JumpLess (map pair all)
 pairs-rise all o i k x y h s r =
@@ -72,3 +75,17 @@ module _ (items : Items) (moves : List Arrow) (u : Unfolding items moves) (t : J
   jumps-found limit r rows l e c =
       record { all = map pair (p .keeps .all); of = jumps-of
              ; answer = subst (λ k. Told k (map pair (p .keeps .all)) r rows) l (subst (Told (t .limit) (map pair (p .keeps .all)) r) (sym e) (tells r c)) }
+
+-- ── the whole acceptor ──
+
+module _ (items : Items) (moves : List Arrow) (u : Unfolding items moves) (limit : ℕ) (s : FlatSummary) (rows : List Jump) where
+  pub flat-in : JumpsFound (u .grammar) (u .states) (u .nodes) moves limit (Ok (s .jumps)) rows → FinalNode (u .states) (u .nodes) (s .«final_node» .0)
+      → s .arcs ≡ length (word-moves (items .words) moves) → FlatIn (u .grammar) (u .states) (u .nodes) moves limit s rows
+  flat-in j f a =
+      let (n, few, is) = j .answer in
+      record { flat = record { words-are = refl; nodes-are = refl; final-is = f
+                             ; arcs-are = word-moves-are (u .grammar .words) moves; arcs-rise = word-moves-rise (u .grammar .words) moves (moves-rise items moves u)
+                             ; jumps-are = λ p to. subst (λ l. List·Memᴰ (p, to) l ↔ JumpFrom (u .grammar) (u .states) (u .nodes) moves p to) (sym is) (j .of .are p to)
+                             ; jumps-rise = subst (InOrder JumpLess) (sym is) (j .of .rising) }
+             ; arcs-counted = a ∙ ap (λ w. length (word-moves w moves)) (u .items-of .words)
+             ; jumps-counted = n ∙ ap length (sym is); few = few }

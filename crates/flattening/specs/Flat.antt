@@ -13,11 +13,12 @@ use Rattle.finding.specs.Numbered.{Arrow}
 use Rattle.theory.specs.Machine.{Machine}
 use Rattle.theory.specs.Policies.{Meaning}
 use Rattle.theory.specs.Unfolding.{Node, Unfolded}
-use Rattle.theory.specs.Flattening.{Jump as JumpFrom, JumpLess}
+use Rattle.theory.specs.Flattening.{Acceptor, Jump as JumpFrom, JumpLess, word-moves, FlattenedFrom}
 use Rattle.machine.specs.declared.items.Items.{Items}
 use Rattle.machine.specs.Closing.{ItemsOf}
 use Rattle.flattening.specs.declared.jump.Jump.{Jump}
 use Rattle.flattening.specs.declared.fault.JumpFault.{JumpFault}
+use Rattle.flattening.specs.declared.flat.FlatSummary.{FlatSummary}
 use Rattle.flattening.specs.Orders.{pair}
 
 -- the items are those of a grammar, and the moves those of its machine, unfolded under a policy
@@ -54,3 +55,20 @@ pub record JumpsFound (g : Grammar) (states : List (List ℕ)) (nodes : List Nod
   pub all : List (ℕ × ℕ)
   pub of : JumpsOf g states nodes moves all
   pub answer : Told limit all r rows
+
+-- the acceptor of moves between nodes, with its final node and the jumps of the first rows
+abbrev pub acceptor : Grammar → List Node → List Arrow → FlatSummary → List Jump → Acceptor
+acceptor g nodes moves s rows =
+    record { words = g .words; nodes = length nodes; final = s .«final_node» .0; arcs = word-moves (g .words) moves; jumps = map pair (take (s .jumps) rows) }
+
+-- the rows hold the jumps of the flattened acceptor, and the summary counts its arcs and jumps
+pub record FlatIn (g : Grammar) (states : List (List ℕ)) (nodes : List Node) (moves : List Arrow) (limit : ℕ) (s : FlatSummary) (rows : List Jump) : Type 0 where
+  pub flat : FlattenedFrom g states nodes moves (acceptor g nodes moves s rows)
+  pub arcs-counted : s .arcs ≡ length (word-moves (g .words) moves)
+  pub jumps-counted : s .jumps ≡ length (map pair (take (s .jumps) rows))
+  pub few : s .jumps ≤ limit
+
+-- what is answered of the acceptor; it is refused only for its jumps
+abbrev pub FlatFound : Grammar → List (List ℕ) → List Node → List Arrow → ℕ → Result FlatSummary JumpFault → List Jump → Type 0
+FlatFound g states nodes moves limit (Ok s) rows = FlatIn g states nodes moves limit s rows
+FlatFound g states nodes moves limit (Err f) rows = JumpsFound g states nodes moves limit (Err f) rows
