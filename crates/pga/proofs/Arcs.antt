@@ -20,7 +20,7 @@ use Rattle.theory.specs.Lists.{keep}
 use Rattle.theory.specs.Flattening.{word-moves}
 use Rattle.theory.proofs.Lists.{keep-take, keep-leave, keep-length}
 use Rattle.pga.specs.Files.{arc-numbers, jump-numbers}
-use Rattle.pga.specs.declared.jump.Jump.{Jump}
+use Rattle.flattening.specs.declared.jump.Jump.{Jump}
 use Rattle.pga.specs.Writing.{Put, node, arrows, pairs}
 use Rattle.pga.proofs.Lists.{joined-append}
 use Rattle.pga.proofs.Putting.{put-then}

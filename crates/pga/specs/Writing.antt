@@ -10,7 +10,7 @@ use Rattle.finding.specs.declared.moves.Move.{Move}
 use Rattle.finding.specs.Numbered.{Arrow}
 use Rattle.finding.specs.Finding.{arrow}
 use Rattle.theory.specs.Flattening.{Acceptor, file-length, word-moves}
-use Rattle.pga.specs.declared.jump.Jump.{Jump}
+use Rattle.flattening.specs.declared.jump.Jump.{Jump}
 use Rattle.pga.specs.declared.writer.OutputShort.{OutputShort}
 use Rattle.pga.specs.Files.{Fit, file-of, IsFile}
 

@@ -2,7 +2,6 @@
 pub mod check;
 pub mod fault;
 mod format;
-pub mod jump;
 pub mod listing;
 mod output;
 pub mod writer;

@@ -14,7 +14,7 @@ use super::format::ARCS_AT;
 use super::format::JUMP_SIZE;
 use super::format::MARK;
 use super::format::VERSION;
-use super::jump::Jump;
+use flattening::jump::Jump;
 use super::output::put_numbers;
 use finding::moves::Move;
 use table::numbers::NodeNo;

@@ -1,6 +1,6 @@
 //! The example of the tests: the acceptor of S → a S b and S → ε, where a = 0, b = 1 and S = 2.
 use finding::moves::Move;
-use pga::jump::Jump;
+use flattening::jump::Jump;
 use pga::listing::Counts;
 use table::numbers::NodeNo;
 

@@ -7,7 +7,7 @@ use super::example::MOVES;
 use super::example::TEXT;
 use super::example::jump_of;
 use super::example::move_of;
-use pga::jump::Jump;
+use flattening::jump::Jump;
 use pga::listing::list;
 use pga::writer::Parts;
 use pga::writer::write;

@@ -1,0 +1,10 @@
+pub mod Halving
+pub mod Targets
+pub mod Inserting
+pub mod Tables
+pub mod Walking
+pub mod Chains
+pub mod Gathering
+pub mod Linking
+pub mod Counting
+pub mod Telling
