@@ -1,5 +1,6 @@
 //! The text of an acceptor: counts, arcs and jumps, a line each.
-ghost use mathlib.Core.List.{_∷_, _++_};
+ghost use mathlib.Core.Path.{_≡_};
+ghost use mathlib.Core.List.{[], _∷_};
 ghost use Prim.Native.Nat.{_+_, _*_, _^_, _≤_, _<_};
 ghost use lib.ListN.{length};
 ghost use Rattle.std.specs.Written.{decimal};
@@ -84,13 +85,19 @@ fn put_jump_lines(out: &mut [u8], at: usize, file: &[u8], start: usize, count: u
     end
 }
 
+/// The counts after that of the states.
+fn after_states(counts: Counts) -> [usize; 5]
+    ensures { λ r. ⌜ r ≡ counts .moves ∷ (counts .nodes ∷ (counts .unfolded ∷ (counts .arcs ∷ (counts .jumps ∷ [])))) ⌝ }
+{
+    [counts.moves, counts.nodes, counts.unfolded, counts.arcs, counts.jumps]
+}
+
 /// Puts the text of the file's acceptor under these counts; the place after it.
 fn put_text(out: &mut [u8], counts: Counts, file: &[u8], header: Header) -> usize
     requires { ⌜ Checked (now file) (Ok header) ⌝ }
     ensures { λ r. ⌜ Put (now (out .entry)) 0 (lines counts (decoded (now (file .entry)))) (now (out .exit)) r ⌝ }
 {
-    let Counts { states, moves, nodes, unfolded, arcs, jumps } = counts;
-    let arcs_at = put_line(out, 0, states, &[moves, nodes, unfolded, arcs, jumps]);
+    let arcs_at = put_line(out, 0, counts.states, &after_states(counts));
     let jumps_at = put_arc_lines(out, arcs_at, file, ARCS_AT, header.arcs);
     put_jump_lines(out, jumps_at, file, ARCS_AT + ARC_SIZE * header.arcs, header.jumps)
 }

@@ -1,6 +1,6 @@
 //! Writing the file of an acceptor.
 ghost use mathlib.Core.Path.{_≡_};
-ghost use mathlib.Core.List.{_++_};
+ghost use mathlib.Core.List.{[], _∷_};
 ghost use Prim.Native.Nat.{_+_, _*_, _^_, _≤_, _<_};
 ghost use lib.Chars.{codes};
 ghost use lib.ListN.{length};
@@ -75,20 +75,27 @@ fn put_jumps(out: &mut [u8], at: usize, jumps: &[Jump]) -> usize
     end
 }
 
+/// The numbers in front of the arcs.
+fn header_of(parts: Parts, arcs: usize) -> [u16; 6]
+    requires { ⌜ (arcs ≤ 16384) × (length (now (parts .jumps)) ≤ 16384) ⌝ }
+    ensures { λ r. ⌜ r ≡ 1 ∷ (parts .entry .words ∷ (parts .entry .nodes ∷ (parts .entry .«final_node» .0 ∷ (arcs ∷ (length (now (parts .entry .jumps)) ∷ []))))) ⌝ }
+{
+    [VERSION, parts.words, parts.nodes, parts.final_node.0, arcs as u16, parts.jumps.len() as u16]
+}
+
 /// Writes the file of an acceptor; the length used.
 pub fn write(parts: Parts, out: &mut [u8]) -> Result<usize, OutputShort>
     requires { ⌜ (length (now (parts .moves)) ≤ 16384) × (length (now (parts .jumps)) ≤ 16384) ⌝ }
     ensures { λ r. ⌜ Written (acceptor (parts .entry .words) (parts .entry .nodes) (parts .entry .«final_node») (now (parts .entry .moves)) (now (parts .entry .jumps))) (now (out .entry)) r (now (out .exit)) ⌝ }
 {
     let arcs = count_arcs(parts.words, parts.moves);
-    let jumps = parts.jumps.len();
-    let needed = ARCS_AT + ARC_SIZE * arcs + JUMP_SIZE * jumps;
+    let needed = ARCS_AT + ARC_SIZE * arcs + JUMP_SIZE * parts.jumps.len();
     if out.len() < needed {
         return Err(OutputShort { needed });
     }
-    out[0..3].copy_from_slice(&MARK);
-    let header = [VERSION, parts.words, parts.nodes, parts.final_node.0, arcs as u16, jumps as u16];
-    let arcs_at = put_numbers(out, 3, &header);
+    out[0..MARK.len()].copy_from_slice(&MARK);
+    let header = header_of(parts, arcs);
+    let arcs_at = put_numbers(out, MARK.len(), &header);
     let jumps_at = put_arcs(out, arcs_at, parts.words, parts.moves);
     Ok(put_jumps(out, jumps_at, parts.jumps))
 }

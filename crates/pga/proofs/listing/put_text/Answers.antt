@@ -1,4 +1,8 @@
+use mathlib.Core.Path.{subst}
+use mathlib.Core.List.{_∷_}
 use native.Mathlib.Omega.{arith}
+use Rattle.pga.specs.Writing.{Put}
+use Rattle.pga.specs.Listing.{line}
 use Rattle.pga.proofs.Listed.{sizes, text-put}
 use Rattle.pga.proofs.listing.put_text.Needs as need
 
@@ -16,6 +20,8 @@ put-jump-lines-requires c κs =
 
 pub returns : need.returns
 returns c =
+    let first = subst (λ l. Put (c .args .out .now) 0 (line (c .args .counts .states ∷ l)) (c .put-line-arcs-at .last .out) (c .put-line-arcs-at .result))
+            (c .after-states .ensures) (c .put-line-arcs-at .ensures .put) in
     text-put (c .args .counts) (c .args .file .now) (c .args .header) (sizes (c .args .file .now) (c .args .header) (c .pre))
     (c .args .out .now) (c .put-line-arcs-at .last .out) (c .put-arc-lines-jumps-at .last .out) _ _ _ _ (omega arith) (omega arith)
-    (c .put-line-arcs-at .ensures .put) (c .put-arc-lines-jumps-at .ensures .put) (c .put-jump-lines .ensures)
+    first (c .put-arc-lines-jumps-at .ensures .put) (c .put-jump-lines .ensures)
