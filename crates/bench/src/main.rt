@@ -1,10 +1,13 @@
-//! Times the calls on books near the ceilings: what was found goes to the standard output, the times to the error stream.
+//! Times the calls on books near the ceilings. Each letter of the standard input asks for a book: i for items, s for states,
+//! n for nodes, m for moves and jumps, q for a small one of the same make. What was found goes to the standard output, the times to the error stream.
 mod books;
+mod compiles;
 
 use book::BookFault;
 use finding::moves::Move;
 use machine::machine::characteristic;
 use std::error::AnyError;
+use std::io::Read;
 use std::time::Instant;
 use table::numbers::ItemNoNumber;
 use table::numbers::StateNo;
@@ -36,12 +39,50 @@ fn time_machine(rt: &LibcRuntime, name: &str, table: &[u16], made: Result<usize,
     Ok(())
 }
 
-fn main(rt: LibcRuntime) -> Result<(), AnyError> {
+/// Times the machine of a book, then its compile under each policy.
+fn time_book(rt: &LibcRuntime, name: &str, table: &[u16], made: Result<usize, BookFault>) -> Result<(), AnyError> {
+    time_machine(rt, name, table, made)?;
+    compiles::under_each(rt, table)
+}
+
+/// Times the book that a letter of the standard input asks for; other letters ask for none.
+fn time_asked(rt: &LibcRuntime, letter: u8) -> Result<(), AnyError> {
     let mut table = [0; ENTRIES];
-    let made = books::many_items(&mut table);
-    time_machine(&rt, "4,096 dotted rules", &table, made)?;
-    let made = books::many_states(&mut table);
-    time_machine(&rt, "near 1,024 states", &table, made)?;
-    let made = books::many_moves(&mut table);
-    time_machine(&rt, "near 16,384 moves", &table, made)
+    match letter {
+        b'i' => {
+            let made = books::many_items(&mut table);
+            time_book(rt, "4,096 dotted rules", &table, made)
+        }
+        b's' => {
+            let made = books::many_states(&mut table);
+            time_book(rt, "near 1,024 states", &table, made)
+        }
+        b'n' => {
+            let made = books::many_nodes(&mut table);
+            time_book(rt, "near 4,096 nodes", &table, made)
+        }
+        b'm' => {
+            let made = books::many_moves(&mut table);
+            time_book(rt, "16,384 moves", &table, made)
+        }
+        b'q' => {
+            let made = books::few_nodes(&mut table);
+            time_book(rt, "a small book", &table, made)
+        }
+        _ => Ok(()),
+    }
+}
+
+/// Times the books asked for, one after the other.
+fn time_each(rt: &LibcRuntime, letters: &[u8]) -> Result<(), AnyError> {
+    for letter in letters {
+        time_asked(rt, *letter)?;
+    }
+    Ok(())
+}
+
+fn main(rt: LibcRuntime) -> Result<(), AnyError> {
+    let mut input = Vec::new(rt.alloc());
+    rt.stdin().read_to_end(&mut input)?;
+    time_each(&rt, &input)
 }

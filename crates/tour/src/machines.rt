@@ -45,7 +45,7 @@ fn print_moves(rt: &impl Print, moves: &[Move<StateNo>], count: usize) -> io::Re
 }
 
 /// S → a X a | b X b, X → c, with a = 0, b = 1, c = 2, S = 3 and X = 4.
-fn two_sides(table: &mut [u16]) -> Result<usize, BookFault> {
+pub fn two_sides(table: &mut [u16]) -> Result<usize, BookFault> {
     blank(table, 3, 2, 3)?;
     add(table, 3, &[0, 4, 0])?;
     add(table, 3, &[1, 4, 1])?;

@@ -4,6 +4,7 @@ mod house;
 mod looking;
 mod machines;
 mod making;
+mod policies;
 mod refusing;
 mod telling;
 
@@ -22,5 +23,6 @@ fn main(rt: LibcRuntime) -> io::Result<()> {
     looking::chapter(&rt, &table)?;
     filing::chapter(&rt, &table, &mut file)?;
     machines::chapter(&rt, &table)?;
+    policies::chapter(&rt)?;
     refusing::chapter(&rt, &mut table, &mut file)
 }
