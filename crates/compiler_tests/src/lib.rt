@@ -10,8 +10,14 @@ use flattening::jump::Jump;
 use pga::listing::Counts;
 use pga::listing::CountsDebug;
 use pga::listing::CountsPartialEq;
+use policies::last::Depth;
+use policies::last::Last;
+use policies::last::LastPolicy;
+use policy::one_class::OneClass;
+use policy::one_class::OneClassPolicy;
 use policy::path::Path;
 use policy::path::PathPolicy;
+use policy::stacks::Policy;
 use table::numbers::ClassNo;
 use table::numbers::ItemNoNumber;
 use table::numbers::NodeNo;
@@ -37,8 +43,8 @@ enum Answer {
     Refused(u8, u8, usize),
 }
 
-/// Compiles a book under path in tables of these rows, at most sixteen each.
-fn compile_in(book: &[u16], rows: Rows, out: &mut [u8]) -> Answer {
+/// Compiles a book under a policy in tables of these rows, at most sixteen each.
+fn compile_in<P: Policy>(book: &[u16], policy: &mut P, rows: Rows, out: &mut [u8]) -> Answer {
     let mut states = [ItemSet::empty(); 16];
     let mut moves = [Move { from: StateNo(0), symbol: 0, to: StateNo(0) }; 16];
     let mut nodes = [Node { state: StateNo(0), class: ClassNo(0) }; 16];
@@ -51,7 +57,7 @@ fn compile_in(book: &[u16], rows: Rows, out: &mut [u8]) -> Answer {
         unfolded: &mut unfolded[0..rows.unfolded.min(16)],
         jumps: &mut jumps[0..rows.jumps.min(16)],
     };
-    match compile_book(book, &mut Path::new(), work, out) {
+    match compile_book(book, policy, work, out) {
         Ok(counts) => Answer::Compiled(counts),
         Err(fault) => {
             let Refusal { number, layer, place } = fault.refusal();
@@ -65,6 +71,22 @@ fn nested(table: &mut [u16]) -> Result<usize, BookFault> {
     blank(table, 2, 1, 2)?;
     add(table, 2, &[0, 2, 1])?;
     add(table, 2, &[])
+}
+
+/// S → a X a | b X b, X → c, with a = 0, b = 1, c = 2, S = 3 and X = 4.
+fn two_sides(table: &mut [u16]) -> Result<usize, BookFault> {
+    blank(table, 3, 2, 3)?;
+    add(table, 3, &[0, 4, 0])?;
+    add(table, 3, &[1, 4, 1])?;
+    add(table, 4, &[2])
+}
+
+/// S → A b, A → A a | ε, with a = 0, b = 1, S = 2 and A = 3.
+fn left_linear(table: &mut [u16]) -> Result<usize, BookFault> {
+    blank(table, 2, 2, 2)?;
+    add(table, 2, &[3, 1])?;
+    add(table, 3, &[3, 0])?;
+    add(table, 3, &[])
 }
 
 /// Rows enough for every book here.
@@ -102,7 +124,7 @@ mod tests {
         check(nested(&mut table).is_ok())?;
         let mut out = [9; 64];
         let length = rows.out.min(64);
-        check_eq(compile_in(&table, rows, &mut out[0..length]), answer)?;
+        check_eq(compile_in(&table, &mut Path::new(), rows, &mut out[0..length]), answer)?;
         check_eq(out, [9; 64])
     }
 
@@ -119,14 +141,35 @@ mod tests {
         let mut table = [0; 32];
         check(nested(&mut table).is_ok())?;
         let mut out = [9; 50];
-        check_eq(compile_in(&table, EXACT, &mut out[0..49]), NESTED)?;
+        check_eq(compile_in(&table, &mut Path::new(), EXACT, &mut out[0..49]), NESTED)?;
         check_eq((out[11], out[13], out[49]), (3, 4, 9))
+    }
+
+    #[test]
+    fn policies_differ() -> Result<(), Fail> {
+        let mut table = [0; 32];
+        check(two_sides(&mut table).is_ok())?;
+        let mut out = [9; 96];
+        let coarse = Counts { states: 9, moves: 9, nodes: 9, unfolded: 9, arcs: 6, jumps: 4 };
+        check_eq(compile_in(&table, &mut OneClass, ENOUGH, &mut out), Answer::Compiled(coarse))?;
+        let fine = Counts { nodes: 10, ..coarse };
+        check_eq(compile_in(&table, &mut Path::new(), ENOUGH, &mut out), Answer::Compiled(fine))?;
+        check_eq(compile_in(&table, &mut Last::new(Depth::One), ENOUGH, &mut out), Answer::Compiled(fine))
+    }
+
+    #[test]
+    fn left_linear_book() -> Result<(), Fail> {
+        let mut table = [0; 32];
+        check(left_linear(&mut table).is_ok())?;
+        let mut out = [9; 64];
+        let counts = Counts { states: 5, moves: 4, nodes: 5, unfolded: 4, arcs: 2, jumps: 3 };
+        check_eq(compile_in(&table, &mut OneClass, ENOUGH, &mut out), Answer::Compiled(counts))
     }
 
     #[test]
     fn no_book() -> Result<(), Fail> {
         let mut out = [9; 64];
-        check_eq(compile_in(&[], ENOUGH, &mut out), Answer::Refused(1, 1, 0))?;
+        check_eq(compile_in(&[], &mut Path::new(), ENOUGH, &mut out), Answer::Refused(1, 1, 0))?;
         check_eq(out, [9; 64])
     }
 
@@ -136,7 +179,7 @@ mod tests {
         check(blank(&mut table, 1, 1, 1).is_ok())?;
         let mut out = [9; 16];
         let counts = Counts { states: 2, moves: 1, nodes: 2, unfolded: 1, arcs: 0, jumps: 0 };
-        check_eq(compile_in(&table, ENOUGH, &mut out), Answer::Compiled(counts))?;
+        check_eq(compile_in(&table, &mut Path::new(), ENOUGH, &mut out), Answer::Compiled(counts))?;
         check_eq(out, [0x50, 0x47, 0x41, 1, 0, 1, 0, 2, 0, 1, 0, 0, 0, 0, 0, 9])
     }
 
@@ -147,7 +190,7 @@ mod tests {
         check(add(&mut table, 1, &[1]).is_ok())?;
         let mut out = [9; 20];
         let counts = Counts { states: 2, moves: 1, nodes: 2, unfolded: 1, arcs: 0, jumps: 1 };
-        check_eq(compile_in(&table, ENOUGH, &mut out), Answer::Compiled(counts))?;
+        check_eq(compile_in(&table, &mut Path::new(), ENOUGH, &mut out), Answer::Compiled(counts))?;
         check_eq(out, [0x50, 0x47, 0x41, 1, 0, 1, 0, 2, 0, 1, 0, 0, 0, 1, 0, 1, 0, 1, 0, 9])
     }
 
@@ -158,7 +201,7 @@ mod tests {
         check(add(&mut table, 1, &[]).is_ok())?;
         let mut out = [9; 20];
         let counts = Counts { states: 2, moves: 1, nodes: 2, unfolded: 1, arcs: 0, jumps: 1 };
-        check_eq(compile_in(&table, ENOUGH, &mut out), Answer::Compiled(counts))?;
+        check_eq(compile_in(&table, &mut Path::new(), ENOUGH, &mut out), Answer::Compiled(counts))?;
         check_eq(out, [0x50, 0x47, 0x41, 1, 0, 1, 0, 2, 0, 1, 0, 0, 0, 1, 0, 0, 0, 1, 0, 9])
     }
 }
