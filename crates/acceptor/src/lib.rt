@@ -1,4 +1,6 @@
 //! Opened acceptors and turns: what runs a sentence word by word, and what is told of it.
+#![tactic(auto)]
+
 pub mod fault;
 pub mod flat;
 pub mod rising;

@@ -1,5 +1,7 @@
 //! Times the calls on books near the ceilings. Each letter of the standard input asks for a book: i for items, s for states,
 //! n for nodes, m for moves and jumps, q for a small one of the same make. What was found goes to the standard output, the times to the error stream.
+#![tactic(auto)]
+
 mod books;
 mod compiles;
 

@@ -1,8 +1,8 @@
 -- The bytes of a book file.
-use Rattle.std.proofs.Common.{◌≡◌, ℕ, zero, suc, ◌+◌, ◌-◌, ◌*◌, ◌%◌, ◌<◌, ◌≤◌, List, [], ◌∷◌, ◌++◌, length, get_or, take, drop, set, codes, sym, refl, ap, ◌∙◌, subst, append-nil, arith}
+use Rattle.std.proofs.Common.{◌≡◌, ℕ, ◌+◌, ◌-◌, ◌*◌, ◌<◌, List, [], ◌∷◌, ◌++◌, length, take, drop, set, codes, sym, ap, ◌∙◌, subst, append-nil, arith}
 use borrow.Rule.Slice.PartMut.{put_mid, post_of}
 use Rattle.std.specs.List.{flat_map, AllByRecursion}
-use Rattle.std.proofs.lemmas.List.{length-append, drop_all, take_at, drop_at, nil_from_length}
+use Rattle.std.proofs.lemmas.List.{length-append, drop_all, take_at, nil_from_length}
 use Rattle.book.specs.Grammar.{Grammar}
 use Rattle.book.specs.Reading.{numbers}
 use Rattle.book.specs.Tables.{rule_entries, header, entries, used, Holds}

@@ -1,14 +1,14 @@
 -- A table that is read rule by rule holds a grammar.
-use Rattle.std.proofs.Common.{◌≡◌, ℕ, zero, suc, ◌+◌, ◌-◌, ◌<◌, ◌≤◌, List, [], ◌∷◌, ◌++◌, length, get_or, take, drop, Ok, Err, sym, refl, ap, ◌∙◌, subst, append_assoc, append-nil, add_comm, arith}
-use Rattle.std.specs.List.{flat_map, AllByRecursion}
-use Rattle.std.proofs.lemmas.List.{length-drop, get_or-drop, get_or-take, length-take-le, take-append-drop, length-append, length_push, drop-drop, flat_map_more}
+use Rattle.std.proofs.Common.{◌≡◌, ℕ, zero, suc, ◌+◌, ◌<◌, ◌≤◌, List, [], ◌∷◌, ◌++◌, length, get_or, take, drop, Ok, sym, refl, ap, ◌∙◌, subst, append_assoc, arith}
+use Rattle.std.specs.List.{flat_map}
+use Rattle.std.proofs.lemmas.List.{get_or-take, length-take-le, take-append-drop, length-append, length_push, drop-drop, flat_map_more}
 use Rattle.std.proofs.ByRecursion.{All-from_get_or, All-push, All-weaker}
 use Rattle.book.specs.declared.reader.Header.{Header}
 use Rattle.book.specs.declared.reader.Summary.{Summary}
 use Rattle.book.specs.Grammar.{Rule, rule, Grammar, symbols, with_rule}
-use Rattle.book.specs.Tables.{Name, dots, items, FitRule, Fit, rule_entries, header, entries, used, Begins, Holds}
-use Rattle.book.specs.Flaws.{SoundTo, InRange, Right, size}
-use Rattle.book.specs.Checks.{Headed, Stands, RuleChecked, ReadTo, summary, Checked}
+use Rattle.book.specs.Tables.{dots, items, FitRule, Fit, rule_entries, header, entries, used, Begins, Holds}
+use Rattle.book.specs.Flaws.{SoundTo, Right, size}
+use Rattle.book.specs.Checks.{Headed, RuleChecked, ReadTo, Checked}
 
 -- the rule with which a list begins
 abbrev pub first_rule : List ℕ → Rule

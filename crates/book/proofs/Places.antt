@@ -1,9 +1,9 @@
 -- Where the rules of a held grammar stand in the table.
-use Rattle.std.proofs.Common.{◌≡◌, ℕ, zero, suc, ◌+◌, ◌-◌, ◌<◌, ◌≤◌, List, [], ◌∷◌, ◌++◌, length, get_or, take, drop, sym, refl, ap, ◌∙◌, subst, append_assoc, arith}
-use Rattle.std.specs.List.{flat_map, AllByRecursion}
-use Rattle.std.proofs.lemmas.List.{length-append, length-drop, get_or-drop, drop-drop, drop_at, take_at, take_more, drop_more, take-append-drop, take_all}
+use Rattle.std.proofs.Common.{◌≡◌, ℕ, ◌+◌, ◌<◌, ◌≤◌, List, [], ◌∷◌, ◌++◌, length, get_or, take, drop, sym, refl, ap, ◌∙◌, append_assoc, arith}
+use Rattle.std.specs.List.{flat_map}
+use Rattle.std.proofs.lemmas.List.{length-append, length-drop, get_or-drop, drop-drop, drop_at, take_at, take_more, drop_more, take-append-drop}
 use Rattle.book.specs.Grammar.{Rule, Grammar}
-use Rattle.book.specs.Tables.{rule_entries, header, entries, used, place, Holds}
+use Rattle.book.specs.Tables.{rule_entries, header, place, Holds}
 
 joined_append : (rs ss : List Rule) → flat_map rule_entries (rs ++ ss) ≡ flat_map rule_entries rs ++ flat_map rule_entries ss
 joined_append [] ss = refl

@@ -1,11 +1,11 @@
 -- The entries of one rule, as they stand in a list at `at`.
-use Rattle.std.proofs.Common.{◌≡◌, ℕ, zero, suc, ◌+◌, ◌-◌, ◌<◌, ◌≤◌, ◌⊎◌, List, length, get_or, drop, Ok, Err, sym, refl, ap, ◌∙◌, subst, inl, inr, ⊎_elim, arith}
+use Rattle.std.proofs.Common.{◌≡◌, ℕ, zero, suc, ◌+◌, ◌<◌, ◌≤◌, List, length, get_or, drop, Ok, sym, refl, ap, ◌∙◌, subst, ⊎_elim, arith}
 use Rattle.std.proofs.lemmas.List.{length-drop, get_or-drop}
 use Rattle.book.specs.declared.fault.BookFault.{BookFault}
 use Rattle.book.specs.declared.reader.Header.{Header}
-use Rattle.book.specs.Grammar.{Grammar, symbols}
+use Rattle.book.specs.Grammar.{Grammar}
 use Rattle.book.specs.Refusals.{refusal, told}
-use Rattle.book.specs.Tables.{Name, items, used}
+use Rattle.book.specs.Tables.{Name}
 use Rattle.book.specs.Flaws.{SoundTo, Right, size, cause, RuleFault}
 use Rattle.book.specs.Flaws.RuleFault.{missing, wrong, too_many}
 use Rattle.book.specs.Checks.{SymbolsTo, SymbolFault, Stands, RuleChecked}

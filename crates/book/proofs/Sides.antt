@@ -1,7 +1,7 @@
 -- Right sides by their first and by their last symbol.
-use Rattle.std.proofs.Common.{◌≡◌, ℕ, zero, suc, ◌+◌, ◌-◌, ◌<◌, ◌≤◌, Bool, true, List, [], ◌∷◌, ◌++◌, length, get_or, take, drop, Decides, sym, refl, ap, ◌∙◌, subst, arith}
+use Rattle.std.proofs.Common.{◌≡◌, ℕ, ◌+◌, ◌-◌, ◌<◌, ◌≤◌, Bool, List, [], ◌∷◌, length, get_or, take, drop, Decides, sym, refl, ap, ◌∙◌, subst, arith}
 use Rattle.std.specs.List.{AllByRecursion}
-use Rattle.std.proofs.lemmas.List.{take_rest, take_at, take_more, length_push, length-append, take_all}
+use Rattle.std.proofs.lemmas.List.{take_at, take_more, length_push, take_all}
 use Rattle.book.specs.Shapes.{LeftSide, RightSide}
 
 pub left_decides : (w : ℕ) (xs : List ℕ) (r : Bool) → 1 ≤ length xs → Decides r (AllByRecursion (λ y. y < w) (take (length xs - 1) (drop 1 xs))) → Decides r (LeftSide w xs)

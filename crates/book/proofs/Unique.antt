@@ -1,14 +1,14 @@
 -- A table holds one grammar, or has one first fault, and never both.
-use Rattle.std.proofs.Common.{◌≡◌, ℕ, zero, suc, ◌+◌, ◌-◌, ◌<◌, ◌≤◌, ◌⊎◌, List, [], ◌∷◌, ◌++◌, length, get_or, take, drop, Ok, Err, Result, sym, refl, ap, ◌∙◌, subst, inl, inr, ⊎_elim, append_assoc, append-nil, arith}
+use Rattle.std.proofs.Common.{◌≡◌, ℕ, zero, suc, ◌+◌, ◌<◌, ◌≤◌, List, [], ◌∷◌, ◌++◌, length, Ok, Err, Result, sym, refl, ap, ◌∙◌, subst, ⊎_elim, append_assoc, append-nil, arith}
 use Rattle.std.specs.List.{flat_map, AllByRecursion}
 use Rattle.std.proofs.lemmas.List.{length-append, get_or_append_left}
 use Rattle.std.proofs.ByRecursion.{All-get_or}
 use Rattle.std.proofs.lemmas.Bool.{cases_lt}
 use Rattle.book.specs.declared.fault.Refusal.{Refusal}
-use Rattle.book.specs.Grammar.{Rule, rule, Grammar, symbols}
+use Rattle.book.specs.Grammar.{Rule, Grammar, symbols}
 use Rattle.book.specs.Refusals.{told}
-use Rattle.book.specs.Tables.{Name, dots, items, FitRule, Fit, rule_entries, header, entries, used, Begins, Holds}
-use Rattle.book.specs.Flaws.{SoundTo, Missing, Wrong, InRange, HeaderFault, Right, size, cause, RuleFault, TableFault}
+use Rattle.book.specs.Tables.{dots, items, FitRule, rule_entries, header, used, Begins, Holds}
+use Rattle.book.specs.Flaws.{SoundTo, Missing, Wrong, InRange, HeaderFault, Right, cause, RuleFault, TableFault}
 use Rattle.book.specs.declared.fault.BookFault.{BookFault}
 use Rattle.book.specs.declared.reader.Summary.{Summary}
 use Rattle.book.specs.Checks.{Checked, OnlyChecked}

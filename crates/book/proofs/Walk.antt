@@ -1,5 +1,5 @@
 -- The walk over the rules that decides the shape.
-use Rattle.std.proofs.Common.{◌≡◌, ℕ, zero, suc, ◌+◌, ◌-◌, ◌<◌, ◌≤◌, Bool, true, ◌&&◌, List, [], ◌∷◌, ◌++◌, length, get_or, take, drop, Decides, sym, refl, ap, ◌∙◌, subst, ⊎_elim, arith}
+use Rattle.std.proofs.Common.{◌≡◌, ℕ, ◌+◌, ◌<◌, ◌≤◌, Bool, ◌&&◌, List, [], ◌∷◌, ◌++◌, length, get_or, take, drop, Decides, sym, refl, ap, ◌∙◌, subst, ⊎_elim, arith}
 use mathlib.Core.List.Memᴰ
 use mathlib.Core.List.{Memᴰ}
 use Rattle.std.specs.List.{AllByRecursion}
@@ -7,7 +7,7 @@ use Rattle.std.proofs.lemmas.List.{take_all, take_more}
 use Rattle.std.proofs.ByRecursion.{All-push}
 use Rattle.std.proofs.lemmas.Bool.Decides.{Decides-and, Decides-like}
 use Rattle.book.specs.declared.reader.Summary.{Summary}
-use Rattle.book.specs.Grammar.{Rule, rule, Grammar, Sentence, LeftLinear, RightLinear}
+use Rattle.book.specs.Grammar.{Rule, rule, Grammar, LeftLinear, RightLinear}
 use Rattle.book.specs.Tables.{place, Holds}
 use Rattle.book.specs.Shapes.{LeftSide, RightSide}
 use Rattle.book.proofs.Held.{Known}

@@ -1,8 +1,8 @@
 -- What the writes of blank and add leave.
-use Rattle.std.proofs.Common.{◌≡◌, ℕ, zero, suc, ◌+◌, ◌-◌, ◌<◌, ◌≤◌, List, [], ◌∷◌, ◌++◌, length, get_or, take, drop, set, sym, refl, ap, ◌∙◌, subst, append_assoc, append-nil, arith}
-use borrow.Rule.Slice.PartMut.{put_mid, post_of}
-use Rattle.std.specs.List.{flat_map, AllByRecursion}
-use Rattle.std.proofs.lemmas.List.{length-set, length-append, take_more_set, drop-drop, drop-set-lt, take_at, drop_at, length_push}
+use Rattle.std.proofs.Common.{◌≡◌, ℕ, suc, ◌+◌, ◌<◌, ◌≤◌, List, [], ◌∷◌, ◌++◌, length, take, drop, set, sym, refl, ap, ◌∙◌, subst, append_assoc, arith}
+use borrow.Rule.Slice.PartMut.{put_mid}
+use Rattle.std.specs.List.{flat_map}
+use Rattle.std.proofs.lemmas.List.{length-set, length-append, take_more_set, drop-drop, drop-set-lt, take_at, length_push}
 use Rattle.std.proofs.ByRecursion.{All-from_get_or}
 use Rattle.book.specs.Grammar.{Rule, rule, Grammar, symbols, with_rule}
 use Rattle.book.specs.Tables.{FitRule, Fit, rule_entries, header, entries, used, Holds}

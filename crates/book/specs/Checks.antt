@@ -1,11 +1,11 @@
 -- What the parts of the check promise.
-use Rattle.std.specs.Prelude.{◌≡◌, ℕ, ◌+◌, ◌<◌, ◌≤◌, ◌⊎◌, List, [], ◌∷◌, ◌++◌, length, drop, Ok, Err, Result, slice_index}
+use Rattle.std.specs.Prelude.{◌≡◌, ℕ, ◌+◌, ◌<◌, ◌≤◌, ◌⊎◌, List, length, drop, Ok, Err, Result, slice_index}
 use Rattle.book.specs.declared.fault.Refusal.{Refusal}
 use Rattle.book.specs.declared.fault.BookFault.{BookFault}
 use Rattle.book.specs.declared.fault.BookFault.TheVariants.{EntryMissing, HeaderRange, SymbolUnknown}
 use Rattle.book.specs.declared.reader.Header.{Header}
 use Rattle.book.specs.declared.reader.Summary.{Summary}
-use Rattle.book.specs.Grammar.{Grammar, symbols}
+use Rattle.book.specs.Grammar.{Grammar}
 use Rattle.book.specs.Refusals.{refusal}
 use Rattle.book.specs.Tables.{items, used, Begins, Holds}
 use Rattle.book.specs.Flaws.{SoundTo, InRange, HeaderFault, Right, size, RuleFault, TableFault}

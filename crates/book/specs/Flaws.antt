@@ -1,7 +1,7 @@
 -- The first fault of a table that holds no grammar.
 --
 -- Entries are judged as they stand, each for presence before its value; the count of items follows a rule's last symbol.
-use Rattle.std.specs.Prelude.{◌≡◌, ℕ, zero, suc, ◌+◌, ◌<◌, ◌≤◌, List, [], ◌∷◌, ◌++◌, length, slice_index}
+use Rattle.std.specs.Prelude.{ℕ, zero, suc, ◌+◌, ◌<◌, ◌≤◌, List, length, slice_index}
 use Rattle.book.specs.declared.fault.Refusal.{Refusal}
 use Rattle.book.specs.Grammar.{Grammar, symbols}
 use Rattle.book.specs.Refusals.{told}

@@ -1,5 +1,5 @@
 -- Reading one entry of a list.
-use Rattle.std.specs.Prelude.{◌≡◌, ℕ, ◌+◌, ◌*◌, ◌<◌, ◌≤◌, List, [], ◌∷◌, ◌++◌, length, Some, None, Option, slice_index}
+use Rattle.std.specs.Prelude.{◌≡◌, ℕ, ◌+◌, ◌*◌, ◌<◌, ◌≤◌, List, [], ◌∷◌, length, Some, None, Option, slice_index}
 
 -- entry i of a list, or none past its end
 abbrev pub EntryAt : List ℕ → ℕ → Option ℕ → Type 0

@@ -1,7 +1,7 @@
 -- How a table of numbers holds a grammar.
 use Rattle.std.specs.Prelude.{◌≡◌, ℕ, suc, ◌+◌, ◌<◌, ◌≤◌, List, [], ◌∷◌, ◌++◌, length, take}
 use Rattle.std.specs.List.{flat_map, AllByRecursion}
-use Rattle.book.specs.Grammar.{Rule, rule, Grammar, symbols}
+use Rattle.book.specs.Grammar.{Rule, Grammar, symbols}
 
 -- the names come after the words
 abbrev pub Name : Grammar → ℕ → Type 0

@@ -1,4 +1,6 @@
 //! The phrase book: a context-free grammar in a table of 16-bit numbers, and its file.
+#![tactic(auto)]
+
 mod entries;
 mod fault;
 mod file;

@@ -1,4 +1,6 @@
 //! Tests of the book at its bounds.
+#![tactic(auto)]
+
 #[cfg(test)]
 mod answers;
 #[cfg(test)]

@@ -1,4 +1,6 @@
 //! Tests of compile on small grammars, and with tables at the bounds.
+#![tactic(auto)]
+
 use book::{BookFault, Refusal, add, blank};
 use compiler::compile::{Workspace, compile_book};
 use finding::moves::Move;

@@ -1,4 +1,6 @@
 //! Tests of determinise on compiled files, and with tables and outputs at their bounds.
+#![tactic(auto)]
+
 use book::{BookFault, Refusal, add, blank};
 use compiler::compile::{Workspace, compile_book};
 use determinising::determinise::determinise;

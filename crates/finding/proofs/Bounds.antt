@@ -1,5 +1,5 @@
 -- What is found lies within the bounds.
-use Rattle.std.proofs.Common.{◌≡◌, ℕ, ◌+◌, ◌<◌, ◌≤◌, List, [], ◌∷◌, ◌++◌, length, arith}
+use Rattle.std.proofs.Common.{◌≤◌, List, length, arith}
 use Rattle.std.proofs.lemmas.List.{length_push}
 use Rattle.finding.specs.Numbered.{Arrow}
 use Rattle.finding.specs.Finding.{Bounded, Place, Turn, Turns, Whole}

@@ -1,8 +1,7 @@
 -- One outcome at most: a search has one numbering, or one refusal, and never both.
-use Rattle.std.proofs.Common.{◌≡◌, ℕ, zero, suc, ◌+◌, ◌<◌, ◌≤◌, ◌⊎◌, List, [], ◌∷◌, ◌++◌, length, sym, refl, ap, ◌∙◌, subst, inl, inr, ⊎_elim, arith}
+use Rattle.std.proofs.Common.{◌≡◌, ℕ, ◌+◌, List, [], ◌∷◌, ◌++◌, length, sym, refl, ap, ◌∙◌, subst, inl, inr, arith}
 use mathlib.Core.Option.{Option, none, some}
 use Rattle.finding.specs.declared.moves.Stop.{Stop}
-use Rattle.finding.specs.declared.moves.Stop.TheVariants.{Room, Entry, Arrow}
 use Rattle.table.specs.Lists.{StandsAt, Lacks, Distinct}
 use Rattle.finding.specs.Numbered.{Arrow as Arrow₃}
 use Rattle.finding.specs.Finding.{Bounded, Place, place, Leads, Turn, Turns, Stopped, Whole, Refused}

@@ -1,5 +1,5 @@
 -- What a search has found when it ends is the numbering of the finding order.
-use Rattle.std.proofs.Common.{◌≡◌, ℕ, zero, suc, ◌+◌, ◌<◌, ◌≤◌, ◌≢◌, ◌⊎◌, List, [], ◌∷◌, ◌++◌, length, get_or, take, sym, refl, ap, ◌∙◌, subst, inl, inr, ⊎_elim, append_assoc, append-nil, add-one, arith, length-append, length-take-le}
+use Rattle.std.proofs.Common.{◌≡◌, ℕ, zero, suc, ◌+◌, ◌<◌, ◌≤◌, ◌≢◌, ◌⊎◌, List, [], ◌∷◌, ◌++◌, length, take, sym, refl, ap, ◌∙◌, subst, inl, inr, ⊎_elim, append_assoc, append-nil, add-one, arith, length-take-le}
 use mathlib.Core.Option.{Option, none, some}
 use mathlib.Core.List.Memᴰ
 use mathlib.Core.List.{Memᴰ}
@@ -7,10 +7,10 @@ use Rattle.std.proofs.lemmas.Bool.{cases_lt}
 use lib.ListN.{get_elem?}
 use Rattle.std.proofs.lemmas.List.{take_more, take_all, take-append-le, length_push}
 use Rattle.table.specs.Lists.{StandsAt, Lacks}
-use Rattle.finding.specs.Finding.{Bounded, Place, place, Leads, Turn, Turns, Whole}
+use Rattle.finding.specs.Finding.{Bounded, Place, Turn, Turns, Whole}
 use Rattle.finding.specs.Finding.Turn.{pass, old, new, next}
 use Rattle.finding.specs.Finding.Turns.{stay, more}
-use Rattle.finding.specs.Numbered.{Arrow, Firsts, Found, Row, Rows, Numbered, all, targets, upto}
+use Rattle.finding.specs.Numbered.{Arrow, Firsts, Row, Rows, Numbered, all, targets, upto}
 use Rattle.finding.specs.Numbered.Firsts.{nil as f_nil, old as f_old, new as f_new}
 use Rattle.finding.specs.Numbered.Row.{end as r_end, pass as r_pass, go as r_go}
 use Rattle.finding.specs.Numbered.Rows.{end as rs_end, row as rs_row}

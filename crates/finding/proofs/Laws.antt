@@ -1,5 +1,5 @@
 -- The laws of a numbering, from its definition.
-use Rattle.std.proofs.Common.{◌≡◌, ℕ, zero, suc, ◌+◌, ◌<◌, ◌≤◌, ◌≢◌, ◌⊎◌, List, [], ◌∷◌, ◌++◌, length, sym, refl, ap, ◌∙◌, subst, inl, inr, ⊎_elim, append-nil, arith}
+use Rattle.std.proofs.Common.{◌≡◌, ℕ, zero, suc, ◌+◌, ◌<◌, ◌≢◌, ◌⊎◌, List, [], ◌∷◌, ◌++◌, length, sym, refl, ap, ◌∙◌, subst, inl, inr, ⊎_elim, arith}
 use mathlib.Core.Option.{Option, none, some}
 use mathlib.Core.List.Memᴰ
 use mathlib.Core.List.{Memᴰ}
@@ -8,10 +8,10 @@ use Rattle.std.proofs.lemmas.Bool.{cases_lt}
 use Rattle.table.specs.Lists.{StandsAt, Distinct, InOrder, Ascending}
 use Rattle.table.proofs.Lists.{stands_below, stands_left, mem_at, at_mem}
 use Rattle.table.proofs.Orders.{in_order_none, in_order_cons, in_order_push, in_order_append, in_order_head, in_order_tail}
-use Rattle.finding.specs.Numbered.{Arrow, Firsts, Found, all, Row, Rows, targets, upto, Numbered}
+use Rattle.finding.specs.Numbered.{Arrow, Found, all, Row, Rows, targets, upto, Numbered}
 use Rattle.finding.specs.Numbered.Row.{end as row_end, pass, go}
 use Rattle.finding.specs.Numbered.Rows.{end as rows_end, row}
-use Rattle.finding.specs.Laws.{Along, MoveOf, Rises, Laws}
+use Rattle.finding.specs.Laws.{Along, Rises, Laws}
 use Rattle.finding.specs.Laws.Along.{here, on}
 use Rattle.finding.proofs.Unique.{begins, firsts_mem, firsts_unseen, found_unique}
 

@@ -1,5 +1,5 @@
 -- What a search answers over the front of its tables, as the whole tables show it.
-use Rattle.std.proofs.Common.{◌≡◌, ℕ, ◌≤◌, List, ◌++◌, map, length, take, IfOk, Ok, Err, Result, sym, subst, arith, length-append}
+use Rattle.std.proofs.Common.{◌≡◌, ℕ, List, ◌++◌, map, take, IfOk, Ok, Err, Result, sym, subst, arith, length-append}
 use Rattle.std.proofs.lemmas.List.{take-append-le}
 use Rattle.finding.specs.declared.moves.Count.{Count}
 use Rattle.finding.specs.declared.moves.Move.{Move}

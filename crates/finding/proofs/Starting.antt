@@ -1,12 +1,12 @@
 -- The first turn and the last of a search.
-use Rattle.std.proofs.Common.{◌≡◌, ℕ, zero, suc, ◌+◌, ◌-◌, ◌<◌, ◌≤◌, List, [], ◌∷◌, ◌++◌, map, length, take, set, Ok, Err, sym, refl, ap, ◌∙◌, subst, arith, length-set, length-take-le}
+use Rattle.std.proofs.Common.{◌≡◌, ℕ, ◌<◌, ◌≤◌, List, [], ◌∷◌, map, length, take, set, Ok, Err, sym, ap, ◌∙◌, subst, length-take-le}
 use lib.ListN.{length-map}
 use Rattle.std.proofs.lemmas.List.{take_more_set}
 use Rattle.finding.specs.declared.moves.Stop.{Stop}
 use Rattle.finding.specs.declared.moves.Move.{Move}
-use Rattle.finding.specs.Finding.{Search, Bounded, Place, within, stands, place, arrow, Turn, Turns, Stopped, TurnedTo, Finding, Whole, Refused}
-use Rattle.finding.specs.Finding.Turns.{stay, more}
-use Rattle.finding.specs.Finding.Refused.{empty, met}
+use Rattle.finding.specs.Finding.{Bounded, Place, stands, place, arrow, Turns, TurnedTo, Whole, Refused}
+use Rattle.finding.specs.Finding.Turns.{stay}
+use Rattle.finding.specs.Finding.Refused.{met}
 use Rattle.finding.specs.declared.moves.Count.{Count}
 use Rattle.finding.specs.Spaces.{Answered}
 use Rattle.finding.proofs.Functional.{whole_or_refused, refused_same}

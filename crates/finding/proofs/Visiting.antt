@@ -1,12 +1,11 @@
 -- The turns of a visit: symbols passed over, a move, a stop, and the next entry.
-use Rattle.std.proofs.Common.{◌≡◌, ℕ, zero, suc, ◌+◌, ◌-◌, ◌<◌, ◌≤◌, List, [], ◌∷◌, ◌++◌, map, length, take, Some, None, sym, refl, ap, ◌∙◌, subst, arith}
-use mathlib.Core.Option.{some}
+use Rattle.std.proofs.Common.{◌≡◌, ℕ, zero, suc, ◌+◌, ◌-◌, ◌<◌, ◌≤◌, List, map, length, take, Some, None, sym, refl, ap, ◌∙◌, subst, arith}
 use Rattle.finding.specs.declared.moves.Stop.{Stop}
 use Rattle.finding.specs.declared.moves.Move.{Move}
 use Rattle.table.specs.Lists.{StandsAt}
 use Rattle.finding.specs.Numbered.{Arrow}
-use Rattle.finding.specs.Finding.{Search, Bounded, Place, within, stands, place, arrow, Leads, Turn, Turns, Stopped, TurnedTo}
-use Rattle.finding.specs.Finding.Turn.{pass, old, new, next}
+use Rattle.finding.specs.Finding.{Search, Bounded, Place, within, stands, place, arrow, Turn, Turns, Stopped, TurnedTo}
+use Rattle.finding.specs.Finding.Turn.{pass, next}
 use Rattle.finding.specs.Finding.Turns.{stay, more}
 use Rattle.finding.specs.Spaces.{LeastMove, Rests}
 use Rattle.table.proofs.Lists.{stands_map, stands_below}

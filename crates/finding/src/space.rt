@@ -32,7 +32,7 @@ pub trait Space {
 
     /// The entry that `e` leads to on the symbol `x`, or none where the space has no place for it.
     fn reach(&mut self, e: Self::Entry, x: u16) -> Option<Self::Entry>
-        requires by_index { (es : List Self.Entry) × (k : ℕ) × ready self.old es × StandsAt es k e }
+        requires held { (es : List Self.Entry) × (k : ℕ) × ready self.old es × StandsAt es k e }
         requires moves { Moves (sought (source self.old)) (thing self.old e) x }
         ensures source { source self.new ≡ source self.old }
         ensures answer { (es : List Self.Entry) (k : ℕ) (t : Thing) → ready self.old es → StandsAt es k e → (sought (source self.old)).step (thing self.old e) x ≡ some t → Reached (thing self.old) (thing self.new) (ready self.new) (sought (source self.old)).room es t result };

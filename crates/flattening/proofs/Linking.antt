@@ -13,7 +13,7 @@ use Rattle.finding.proofs.Laws.{numbered_laws, upto_ascending, upto_below}
 use Rattle.theory.specs.Items.{Sound, Dotted}
 use Rattle.theory.specs.Unfolding.{FinalNode, onward, node}
 use Rattle.theory.specs.Flattening.{Leads, Jump as JumpFrom, JumpLaws}
-use Rattle.theory.proofs.Items.{fit_sound, dotted_below, dotted_next, after_known, rule_first, first_dotted, item_zero}
+use Rattle.theory.proofs.Items.{fit_sound, dotted_below, dotted_next, after_known, rule_first, first_placed, item_zero}
 use Rattle.theory.proofs.Flattening.{jump_laws}
 use Rattle.theory.proofs.Unfolding.{final_node}
 use Rattle.machine.specs.declared.items.Items.{Items}
@@ -58,7 +58,7 @@ module _ (items : Items) (moves : List Arrow) (u : Unfolding items moves) where
 
   -- a first item of a name is that of one of its rules
   first_rule : (n c : ℕ) (s : List ℕ) → Name u.grammar c → Dotted u.grammar n c [] s → Rewrites u.grammar c s
-  first_rule n c s h d = let f = first_dotted u.grammar n c s h.1 d in (h.0, mem_at u.grammar.rules f.place (rule c s) f.at)
+  first_rule n c s h d = let f = first_placed u.grammar n c s h.1 d in (h.0, mem_at u.grammar.rules f.place (rule c s) f.at)
 
   named : (m : Arrow) → Memᴰ m moves → items.words ≤ m.1 → Name u.grammar m.1
   named m i h = (omega (arith, u.items_of.words), symbol_known m i)

@@ -1,4 +1,6 @@
 //! Flattening: the arcs, the jumps and the final node of an acceptor, from the moves of an unfolded machine.
+#![tactic(auto)]
+
 pub mod fault;
 pub mod flat;
 pub mod jump;

@@ -1,4 +1,6 @@
 //! Tests of the characteristic machine on small grammars, and at the bounds of its tables.
+#![tactic(auto)]
+
 use book::{BookFault, add, blank};
 use finding::moves::Move;
 use machine::fault::MachineFault;

@@ -1,4 +1,6 @@
 //! The acceptor file: its bytes, the check of a file, and its text.
+#![tactic(auto)]
+
 pub mod check;
 pub mod fault;
 mod format;

@@ -1,4 +1,6 @@
 //! Tests of acceptor files at their bounds.
+#![tactic(auto)]
+
 #[cfg(test)]
 mod answers;
 #[cfg(test)]

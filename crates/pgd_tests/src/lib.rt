@@ -1,4 +1,6 @@
 //! Tests of the files of determinised acceptors at their bounds.
+#![tactic(auto)]
+
 #[cfg(test)]
 mod answers;
 #[cfg(test)]

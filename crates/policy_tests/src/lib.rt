@@ -1,4 +1,6 @@
 //! Tests of each policy at the end of its places.
+#![tactic(auto)]
+
 use policies::both::Both;
 use policies::last::{Depth, Last};
 use policy::one_class::OneClass;

@@ -3,6 +3,8 @@
 //! A session is a book table, two file buffers and a table of turns, all lent. `specs/` says what one call answers and leaves (`Step`), which states a list
 //! of calls leads to (`Reached`), what calls and answers alone tell of the session (`tally`), and what is promised in those words (`Promise`). There is no
 //! code to run here: the calls themselves ensure their steps, and the law below makes the promise of them.
+#![tactic(auto)]
+
 ghost use Rattle.std.specs.Prelude.{◌≡◌, Bool};
 ghost use Rattle.promise.specs.Example.{ExampleTells};
 ghost use Rattle.promise.specs.Promises.{Kept};

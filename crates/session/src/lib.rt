@@ -2,6 +2,8 @@
 //!
 //! After any list of calls from a blank book, each answer and all that is left are as the history of the calls says, and at each end the verdict holds: nothing
 //! that the book derives is lost, linear books are exact, and a finer policy passes no more.
+#![tactic(auto)]
+
 pub mod fault;
 pub mod record;
 pub mod session;

@@ -1,5 +1,7 @@
 //! Show: reads a book file from the standard input, compiles it under the path policy, and prints the six counts, the arcs
 //! and the jumps, or the refusal.
+#![tactic(auto)]
+
 use book::{Refusal, load};
 use compiler::compile::{Workspace, compile_book};
 use finding::moves::Move;

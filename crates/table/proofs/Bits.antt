@@ -1,5 +1,5 @@
 -- The bits of a number: of an or, of a power of two, the lowest that is set, how many are set, and that they tell the number.
-use Rattle.std.proofs.Common.{◌≡◌, ℕ, zero, suc, ◌+◌, ◌*◌, ◌/◌, ◌%◌, ◌^◌, ◌<◌, ◌≤◌, max, Bool, true, false, cond, eqb, ◌⊎◌, List, [], ◌∷◌, ◌++◌, length, sym, refl, ap, ◌∙◌, subst, inl, inr, ⊎_elim, pow-suc, one-add, arith, length-append, pow_pos, pow_mono}
+use Rattle.std.proofs.Common.{◌≡◌, ℕ, zero, suc, ◌+◌, ◌*◌, ◌/◌, ◌%◌, ◌^◌, ◌<◌, ◌≤◌, max, cond, eqb, [], ◌∷◌, length, sym, refl, ap, ◌∙◌, pow-suc, one-add, arith, length-append, pow_pos, pow_mono}
 use native.Mathlib.Nat.{zero-div, div-eq_of_lt}
 use lib.Bits.{bit_or, or_step, or_shr}
 use lib.Count.{ones, count_trailing_zeros, under, ones_cat}

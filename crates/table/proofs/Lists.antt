@@ -1,11 +1,11 @@
 -- Facts of lists by place.
 use Rattle.std.proofs.Common.{◌≡◌, ℕ, zero, suc, ◌+◌, ◌<◌, ◌≤◌, ◌⊎◌, List, [], ◌∷◌, ◌++◌, map, length, get_or, take, set, sym, refl, ap, ◌∙◌, subst, inl, inr, ⊎_elim, arith, length-take-le, get_or-take}
-use mathlib.Core.Option.{Option, none, some}
+use mathlib.Core.Option.{none, some}
 use mathlib.Core.List.Memᴰ
 use mathlib.Core.List.{Memᴰ}
 use lib.ListN.{get_elem?}
 use Rattle.std.proofs.lemmas.List.{take_more_set}
-use Rattle.table.specs.Lists.{StandsAt, Lacks, Distinct, InOrder}
+use Rattle.table.specs.Lists.{StandsAt, Lacks, Distinct}
 
 -- ---- what stands where
 

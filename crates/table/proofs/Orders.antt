@@ -1,9 +1,9 @@
 -- Lists in order: one more at the end, and that their members tell them.
-use Rattle.std.proofs.Common.{◌≡◌, ℕ, zero, suc, ◌+◌, ◌<◌, ◌≤◌, Bool, true, false, cond, ◌⊎◌, List, [], ◌∷◌, ◌++◌, length, sym, refl, ap, ◌∙◌, subst, inl, inr, ⊎_elim, append-nil, add-zero, add-suc, arith, length-append}
+use Rattle.std.proofs.Common.{◌≡◌, ℕ, zero, suc, ◌+◌, ◌<◌, Bool, true, false, cond, List, [], ◌∷◌, ◌++◌, length, sym, refl, ap, ◌∙◌, subst, ⊎_elim, append-nil, add-zero, add-suc, arith, length-append}
 use mathlib.Core.List.Memᴰ
 use mathlib.Core.List.{Memᴰ}
 use Rattle.std.proofs.lemmas.Bool.{cases_lt}
-use Rattle.table.specs.Lists.{StandsAt, Lacks, Distinct, InOrder, Ascending}
+use Rattle.table.specs.Lists.{StandsAt, Distinct, InOrder, Ascending}
 use Rattle.table.specs.Sets.{passing}
 use Rattle.table.proofs.Lists.{stands_below, stands_push, at_mem, mem_at}
 

@@ -1,10 +1,12 @@
 //! Sets of numbers below 4096, for each sort of number: a row of 64 words of 64 bits.
-ghost use Rattle.std.specs.Prelude.{◌≡◌, Decides};
+ghost use Rattle.std.specs.Prelude.{◌≡◌, Decides, nat_eq, ⊤};
+ghost use Rattle.std.specs.Cmp.Lexicographic.{pointwise};
 ghost use Rattle.table.specs.Sets.{Row};
 ghost use Rattle.std.specs.Cmp.Rules.{comparing};
 ghost use Rattle.std.proofs.Common.{rules, arith};
 
 use crate::numbers::{ItemNo, NodeNo, Number};
+use std::alloc::AllocError;
 use std::marker::PhantomData;
 
 /// A set of numbers of one sort.
@@ -12,6 +14,17 @@ pub struct NumberSet<N> {
     words: [u64; 64],
     sort: PhantomData<N>,
     ghost row: { Row words },
+}
+
+/// The same set; it does not fail.
+impl<N> Clone for NumberSet<N> {
+    ghost is_clone = { λ x y. y ≡ x };
+
+    ghost is_infallible = { λ _. ⊤ };
+
+    fn clone(&self) -> Result<NumberSet<N>, AllocError> {
+        Ok(*self)
+    }
 }
 
 impl<N> Copy for NumberSet<N> {}
@@ -23,11 +36,14 @@ pub type ItemSet = NumberSet<ItemNo>;
 pub type NodeSet = NumberSet<NodeNo>;
 
 impl<N> PartialEq for NumberSet<N> {
-    ghost equals = { λ x y r. Decides r (x ≡ y) };
+    ghost eq = { λ x y. pointwise nat_eq x.words y.words };
 
-    ghost laws = { first_of (Prim.search (comparing, rules), Prim.grind (arith, Self.row.coded.inj)) };
+    ghost laws = { Prim.search (comparing, rules) };
 
-    fn eq(&self, other: &NumberSet<N>) -> bool {
+    fn eq(&self, other: &NumberSet<N>) -> bool
+        ensures tested { result ≡ pointwise nat_eq self.now.words other.now.words }
+        ensures exact { Decides result (self.now ≡ other.now) }
+    {
         self.words == other.words
     }
 }

@@ -235,8 +235,8 @@ pub record FirstOf (g : Grammar) (k c : ℕ) (s : List ℕ) : Type 0 where
   pub at : get_elem? g.rules place ≡ some (rule c s)
   pub number : k ≡ first_item g place
 
-pub first_dotted : (g : Grammar) → (k c : ℕ) (s : List ℕ) → c < symbols g → Dotted g k c [] s → FirstOf g k c s
-first_dotted g k c s h e = cases (dotted_only g k e)
+pub first_placed : (g : Grammar) → (k c : ℕ) (s : List ℕ) → c < symbols g → Dotted g k c [] s → FirstOf g k c s
+first_placed g k c s h e = cases (dotted_only g k e)
   where
     cases : Numbers g k c [] s → FirstOf g k c s
     cases (added n p q) = absurd (omega arith)

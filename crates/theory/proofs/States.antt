@@ -5,7 +5,7 @@ use mathlib.Core.List.{Memᴰ}
 use Rattle.book.specs.Grammar.{Grammar, rule, symbols, Rewrites}
 use Rattle.finding.specs.Numbered.{Arrow}
 use Rattle.finding.proofs.Laws.{numbered_unique}
-use Rattle.theory.specs.Items.{Item, item, items, Dotted, Sound}
+use Rattle.theory.specs.Items.{Item, items, Dotted, Sound}
 use Rattle.theory.specs.Closure.{Closed, carried}
 use Rattle.theory.specs.Closure.Closed.{kernel, opened}
 use Rattle.theory.specs.Machine.{Machine, HasItem, Holds, FinalState, MachineLaws}

@@ -19,7 +19,7 @@ use Rattle.theory.specs.Flattening.Leads.{here, on}
 use Rattle.theory.proofs.Lists.{true_or_false, and_is, and_only, some_one, none_some}
 use Rattle.theory.proofs.Numbering.{entry_left, move_made, step_made, move_symbol, move_one, from_earlier}
 use Rattle.theory.proofs.Machine.{zeroth, moved, moves_when, moves_only}
-use Rattle.theory.proofs.States.{zero_unentered, final_not_zero, final_entered, final_state, final_one}
+use Rattle.theory.proofs.States.{zero_unentered, final_not_zero, final_entered, final_state}
 use Rattle.theory.proofs.Graphs.{Closes, closes_map, Outset, Over, Graph, Lawful, leads_on}
 
 -- ── where a move leads ──

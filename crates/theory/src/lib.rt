@@ -1,3 +1,5 @@
+#![tactic(auto)]
+
 // The mathematics of flattening: the objects that the compiler's contracts name, and the laws over those objects.
 ghost use Rattle.std.specs.Prelude.{◌≡◌, length};
 ghost use Rattle.theory.specs.Laws.{AllLaws, Foundations};

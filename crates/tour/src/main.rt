@@ -1,4 +1,6 @@
 //! A guided tour: the phrase book of one house, from its first entry on.
+#![tactic(auto)]
+
 mod filing;
 mod house;
 mod looking;

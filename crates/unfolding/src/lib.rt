@@ -1,4 +1,6 @@
 //! The unfolded machine: each state once for each class of the stacks that lead to it.
+#![tactic(auto)]
+
 pub mod fault;
 pub mod moves;
 pub mod node;

@@ -1,4 +1,6 @@
 //! A worked example: a small book that compile takes, so that the laws of compiled files speak of something.
+#![tactic(auto)]
+
 ghost use Rattle.worked.specs.Mirror.{MirrorFile};
 
 use compiler::compile::{Workspace, compile_book};

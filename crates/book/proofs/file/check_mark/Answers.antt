@@ -5,8 +5,8 @@ use Rattle.book.proofs.file.check_mark.Goals as goal
 pub returns-then-file-lt-FRONT : goal.returns-then-file-lt-FRONT
 returns-then-file-lt-FRONT c = short c.if-file-lt-FRONT.true
 
-pub returns-then-not-starts-with : goal.returns-then-not-starts-with
-returns-then-not-starts-with c = mark (omega arith) (search rules)
+pub returns-then-not-starts_with : goal.returns-then-not-starts_with
+returns-then-not-starts_with c = mark (omega arith) (search rules)
 
 pub returns-then-file-ne-VERSION : goal.returns-then-file-ne-VERSION
 returns-then-file-ne-VERSION c = version (omega arith) (search rules) (search rules)

@@ -1,4 +1,4 @@
-use Rattle.std.proofs.Common.{◌≡◌, ◌+◌, ◌-◌, ◌*◌, ◌≤◌, ◌++◌, length, take, drop, sym, refl, ap, ◌∙◌, subst, arith, rules}
+use Rattle.std.proofs.Common.{◌+◌, ◌*◌, ◌++◌, length, take, drop, sym, refl, ap, subst, arith}
 use native.Mathlib.Nat.{sub-zero}
 use Rattle.std.proofs.lemmas.Result.{err_from_is_err_and}
 use Rattle.book.specs.Refusals.{told}
@@ -8,35 +8,35 @@ use Rattle.book.proofs.Held.{known, known_bounds}
 use Rattle.book.proofs.Filed.{saved}
 use Rattle.book.proofs.file.save.Goals as goal
 
-pub returns-in-err-used : goal.returns-in-err-used
-returns-in-err-used c =
-    let p = err_from_is_err_and c.from-residual.result c.from-residual.ensures.1 in
-    rw (p.1, p.2) (book c.in-err-used.ensures.checked, refl)
+pub returns-in_err-used : goal.returns-in_err-used
+returns-in_err-used c =
+    let p = err_from_is_err_and c.from_residual.result c.from_residual.ensures.1 in
+    rw (p.1, p.2) (book c.in_err-used.ensures.checked, refl)
 
-pub overflow-mul-needed : goal.overflow-mul-needed
-overflow-mul-needed c = omega (arith, (known_bounds (known _ _ c.in-ok-used.ensures.checked)).0)
+pub overflow_mul-needed : goal.overflow_mul-needed
+overflow_mul-needed c = omega (arith, (known_bounds (known _ _ c.in_ok-used.ensures.checked)).0)
 
-pub overflow-add-needed : goal.overflow-add-needed
-overflow-add-needed c = omega (arith, (known_bounds (known _ _ c.in-ok-used.ensures.checked)).0)
+pub overflow_add-needed : goal.overflow_add-needed
+overflow_add-needed c = omega (arith, (known_bounds (known _ _ c.in_ok-used.ensures.checked)).0)
 
 pub returns-then-file-needed : goal.returns-then-file-needed
 returns-then-file-needed c =
-    let k = known _ _ c.in-ok-used.ensures.checked in
+    let k = known _ _ c.in_ok-used.ensures.checked in
     let u = k.takes in (
       subst (λ n. SaveFault c.args.table.now (length c.args.file.now) (told 16 (5 + 2 * n))) u
           (short k.grammar k.holds (omega arith)),
       refl,
     )
 
-pub slice-bounds-write-file-end : goal.slice-bounds-write-file-end
-slice-bounds-write-file-end c = omega (arith, (known_bounds (known _ _ c.in-ok-used.ensures.checked)).5)
+pub slice_bounds-write_file-end : goal.slice_bounds-write_file-end
+slice_bounds-write_file-end c = omega (arith, (known_bounds (known _ _ c.in_ok-used.ensures.checked)).5)
 
 pub returns : goal.returns
 returns c =
-    let k = known _ _ c.in-ok-used.ensures.checked in
+    let k = known _ _ c.in_ok-used.ensures.checked in
     let t = c.args.table.now in
     let out = c.args.file.now in
-    let u = c.in-ok-used.field-0.used in
+    let u = c.in_ok-used.field-0.used in
     let n = 5 + 2 * u in
-    subst (λ m. ToFile t out (c.write-file.new.out ++ drop m out) n) (sym (sub-zero n))
-    (saved t out _ _ k.grammar u n k.holds k.takes refl (ap (λ m. take m t) (sub-zero u)) c.write-file.ensures)
+    subst (λ m. ToFile t out (c.write_file.new.out ++ drop m out) n) (sym (sub-zero n))
+    (saved t out _ _ k.grammar u n k.holds k.takes refl (ap (λ m. take m t) (sub-zero u)) c.write_file.ensures)

@@ -4,4 +4,4 @@ use Rattle.book.proofs.file.write_file.Goals as goal
 
 pub returns : goal.returns
 returns c =
-    file_written c.args.out.now _ _ c.args.entries.now _ (omega arith) c.copy-from-slice.ensures.after c.write-numbers.ensures refl
+    file_written c.args.out.now _ _ c.args.entries.now _ (omega arith) c.copy_from_slice.ensures.after c.write_numbers.ensures refl

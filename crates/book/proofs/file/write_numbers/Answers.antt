@@ -8,7 +8,7 @@ use Rattle.book.proofs.file.write_numbers.Goals as goal
 pub loop-i-preserved : goal.loop-i-preserved
 loop-i-preserved c =
     bytes_more c.args.numbers.now c.loop-i.out c.loop-i.i _ _ (omega arith) (omega arith)
-    c.low-and-high-low.ensures.0 c.low-and-high-low.ensures.1 c.loop-i.invariant
+    c.low_and_high-low.ensures.0 c.low_and_high-low.ensures.1 c.loop-i.invariant
 
 pub returns : goal.returns
 returns c =

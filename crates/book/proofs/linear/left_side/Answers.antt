@@ -1,6 +1,6 @@
-use Rattle.std.proofs.Common.{arith, rules}
+use Rattle.std.proofs.Common.{rules}
 use Rattle.book.proofs.Sides.{left_decides}
 use Rattle.book.proofs.linear.left_side.Goals as goal
 
 pub returns-in-len1-up : goal.returns-in-len1-up
-returns-in-len1-up c = left_decides c.args.words c.args.side.now _ (search rules) c.all-words.ensures
+returns-in-len1-up c = left_decides c.args.words c.args.side.now _ (search rules) c.all_words.ensures

@@ -6,4 +6,4 @@ pub returns : goal.returns
 returns c =
     let right = c.args.right.now in
     let long : ((c.args.at + 2) + length right) - (c.args.at + 2) ≡ length right = omega arith in
-    rule_written c.args.table.now c.args.at _ c.args.left right _ (omega arith) long c.copy-from-slice.ensures.after
+    rule_written c.args.table.now c.args.at _ c.args.left right _ (omega arith) long c.copy_from_slice.ensures.after

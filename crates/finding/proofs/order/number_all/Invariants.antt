@@ -1,4 +1,4 @@
-use Rattle.std.proofs.Common.{◌≡◌, ◌-◌, ◌<◌, ◌≤◌, length}
+use Rattle.std.proofs.Common.{◌≡◌, ◌-◌, ◌≤◌, length}
 use Rattle.finding.specs.Finding.{within, stands, Turns}
 use Rattle.finding.specs.Spaces.{Held}
 use Rattle.finding.proofs.order.number_all.Given as goal

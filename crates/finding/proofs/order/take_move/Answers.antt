@@ -1,4 +1,4 @@
-use Rattle.std.proofs.Common.{◌≡◌, ℕ, ◌<◌, ◌≤◌, length, ap, ◌∙◌, arith}
+use Rattle.std.proofs.Common.{ℕ, ◌<◌, length, ap, ◌∙◌, arith}
 use Rattle.table.proofs.Lists.{stands_read}
 use Rattle.table.proofs.Found.{number_below, found_as}
 use Rattle.finding.proofs.Taking.{room_stops, entry_stops, move_stops, moved}
@@ -8,23 +8,23 @@ pub reach-requires : goal.reach-requires
 reach-requires g c =
     let h = c.requires.held in
     let s = stands_read c.args.rows.now c.args.found.entries c.args.i c.index-rows-i.result c.requires.here h.entries_fit c.index-rows-i.is in
-    ((_, _, h.is_ready, s), c.requires.moves _ s)
+    record { held = (_, _, h.is_ready, s); moves = c.requires.moves _ s }
 
-pub returns-in-default : goal.returns-in-default
-returns-in-default g c =
+pub returns-in_default : goal.returns-in_default
+returns-in_default g c =
     let a = c.args in
     let h = c.requires.held in
     let s = stands_read a.rows.now a.found.entries a.i c.index-rows-i.result c.requires.here h.entries_fit c.index-rows-i.is in
     let v = c.requires.moves _ s in
-    let w = c.in-default.ensures.answer _ _ _ h.is_ready s v.1.1 in
+    let w = c.in_default.ensures.answer _ _ _ h.is_ready s v.1.1 in
     record {
       source = c.reach.ensures.source;
       held = tt;
       turn = room_stops (g.S.Space.sought (g.S.Space.source a.space.now)) (g.S.Space.thing a.space.now) (g.S.Space.thing c.reach.new.self) g.N.Number.value (g.S.Space.ready c.reach.new.self) a.rows.now a.found.entries a.moves.now a.found.moves a.i a.x c.index-rows-i.result v.1.0 h.entries_fit h.moves_fit s v.0 v.1.1 w;
     }
 
-pub returns-in-default-number : goal.returns-in-default-number
-returns-in-default-number g c =
+pub returns-in_default-number : goal.returns-in_default-number
+returns-in_default-number g c =
     let a = c.args in
     let h = c.requires.held in
     let s = stands_read a.rows.now a.found.entries a.i c.index-rows-i.result c.requires.here h.entries_fit c.index-rows-i.is in
@@ -33,7 +33,7 @@ returns-in-default-number g c =
     record {
       source = c.reach.ensures.source;
       held = tt;
-      turn = entry_stops (g.S.Space.sought (g.S.Space.source a.space.now)) (g.S.Space.thing a.space.now) (g.S.Space.thing c.reach.new.self) g.N.Number.value (g.S.Space.ready c.reach.new.self) a.rows.now a.found.entries a.moves.now a.found.moves a.i a.x c.index-rows-i.result v.1.0 h.entries_fit h.moves_fit s v.0 v.1.1 w (found_as c.in-default-number.is c.place-number.ensures);
+      turn = entry_stops (g.S.Space.sought (g.S.Space.source a.space.now)) (g.S.Space.thing a.space.now) (g.S.Space.thing c.reach.new.self) g.N.Number.value (g.S.Space.ready c.reach.new.self) a.rows.now a.found.entries a.moves.now a.found.moves a.i a.x c.index-rows-i.result v.1.0 h.entries_fit h.moves_fit s v.0 v.1.1 w (found_as c.in_default-number.is c.place-number.ensures);
     }
 
 pub returns-then-found-moves : goal.returns-then-found-moves
@@ -49,8 +49,8 @@ returns-then-found-moves g c =
       turn = move_stops (g.S.Space.sought (g.S.Space.source a.space.now)) (g.S.Space.thing a.space.now) (g.S.Space.thing c.reach.new.self) g.N.Number.value (g.S.Space.ready c.reach.new.self) a.rows.now a.found.entries a.moves.now a.found.moves a.i a.x c.index-rows-i.result v.1.0 h.entries_fit h.moves_fit s v.0 v.1.1 w (found_as c.in-Some-number.is c.place-number.ensures) (omega arith);
     }
 
-pub from-index-requires-2 : goal.from-index-requires-2
-from-index-requires-2 g c =
+pub from_index-requires-2 : goal.from_index-requires-2
+from_index-requires-2 g c =
     omega (arith, number_below c.requires.held.entries_fit (found_as c.in-Some-number.is c.place-number.ensures), c.requires.short)
 
 pub returns : goal.returns
@@ -61,6 +61,6 @@ returns g c =
     let v = c.requires.moves _ s in
     let w = c.in-Some.ensures.answer _ _ _ h.is_ready s v.1.1 in
     let free : a.found.moves < length a.moves.now = omega (arith, h.moves_fit, c.if-found-moves.false) in
-    let arrow-is = ap (λ (y : ℕ). (y, a.x, g.N.Number.value c.from-index-2.result)) c.from-index.ensures ∙ ap (λ (y : ℕ). (a.i, a.x, y)) c.from-index-2.ensures in
+    let arrow-is = ap (λ (y : ℕ). (y, a.x, g.N.Number.value c.from_index-2.result)) c.from_index.ensures ∙ ap (λ (y : ℕ). (a.i, a.x, y)) c.from_index-2.ensures in
     let k = moved (g.S.Space.sought (g.S.Space.source a.space.now)) (g.S.Space.thing a.space.now) (g.S.Space.thing c.reach.new.self) g.N.Number.value (g.S.Space.ready c.reach.new.self) a.rows.now a.found.entries a.moves.now a.found.moves a.i a.x c.index-rows-i.result v.1.0 h.entries_fit h.moves_fit s v.0 v.1.1 w free _ (found_as c.in-Some-number.is c.place-number.ensures) arrow-is in
     record { source = c.reach.ensures.source; held = (k.held, k.more); turn = k.turn }

@@ -7,7 +7,7 @@ pub returns-in-Some : goal.returns-in-Some
 returns-in-Some g c = old (simp sub-zero at c.in-Some.ensures)
 
 pub returns-then-len-rows : goal.returns-then-len-rows
-returns-then-len-rows g c = full (simp sub-zero at c.in-default.ensures) (omega arith)
+returns-then-len-rows g c = full (simp sub-zero at c.in_default.ensures) (omega arith)
 
 pub returns : goal.returns
-returns g c = new (simp sub-zero at c.in-default.ensures) (omega arith)
+returns g c = new (simp sub-zero at c.in_default.ensures) (omega arith)

@@ -16,4 +16,4 @@ returns-then-rest-ne0 g c =
 
 pub returns : goal.returns
 returns g c =
-    next_later c.args.self.now.words c.args.self.now.row c.args.from (omega arith) _ c.first-from.ensures
+    next_later c.args.self.now.words c.args.self.now.row c.args.from (omega arith) _ c.first_from.ensures

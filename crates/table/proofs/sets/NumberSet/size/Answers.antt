@@ -1,4 +1,4 @@
-use Rattle.std.proofs.Common.{◌≡◌, ℕ, ◌*◌, length, get_or, sym, ap, ◌∙◌, arith, rules}
+use Rattle.std.proofs.Common.{◌≡◌, ℕ, ◌*◌, get_or, sym, ap, ◌∙◌, arith}
 use lib.Count.{ones-le}
 use Rattle.table.proofs.Rows.{count_below, count_none, count_more, count_members, members_listed}
 use Rattle.table.proofs.sets.NumberSet.size.Goals as goal
