@@ -1,5 +1,5 @@
 -- Counting the moves on words, one by one.
-use Rattle.std.proofs.Common.{◌≡◌, ℕ, ◌+◌, ◌<◌, ◌≤◌, Bool, true, false, ltb, List, [], ◌∷◌, ◌++◌, length, sym, refl, ap, ◌∙◌, ⊎_elim, arith, le-ltb, lt-ltb}
+use Rattle.std.proofs.Common.{◌≡◌, ℕ, ◌+◌, ◌<◌, ◌≤◌, Bool, true, false, ltb, List, [], ◌∷◌, ◌++◌, length, ap, ⊎_elim, arith, le-ltb, lt-ltb}
 use Rattle.finding.specs.Numbered.{Arrow}
 use Rattle.theory.specs.Lists.{keep}
 use Rattle.theory.specs.Flattening.{word_moves}

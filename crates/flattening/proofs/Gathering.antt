@@ -1,8 +1,8 @@
 -- The jumps that moves over names give, move by move.
-use Rattle.std.proofs.Common.{◌≡◌, ℕ, ◌+◌, ◌-◌, ◌<◌, ◌≤◌, ◌⊎◌, ◌↔◌, List, [], ◌∷◌, ◌++◌, map, length, get_or, take, sym, refl, ap, ◌∙◌, subst, inl, inr, ⊎_elim, arith}
+use Rattle.std.proofs.Common.{◌≡◌, ℕ, ◌+◌, ◌-◌, ◌<◌, ◌≤◌, ◌⊎◌, List, [], ◌∷◌, ◌++◌, length, get_or, take, sym, refl, ap, ◌∙◌, subst, inl, inr, ⊎_elim, arith}
 use mathlib.Core.List.Memᴰ
 use mathlib.Core.List.{Memᴰ}
-use Rattle.std.proofs.lemmas.List.{take_all, take-map, map_more, length-map, get_or-map}
+use Rattle.std.proofs.lemmas.List.{take_all, take-map, map_more, length-map}
 use Rattle.table.specs.declared.numbers.NodeNo.{NodeNo}
 use Rattle.table.proofs.Lists.{mem_at, stands_map, stands_getD}
 use Rattle.finding.specs.declared.moves.Move.{Move}
@@ -12,7 +12,6 @@ use Rattle.machine.specs.Index.{Chain}
 use Rattle.machine.specs.Index.Chain.{end, link}
 use Rattle.flattening.specs.declared.jump.Jump.{Jump}
 use Rattle.flattening.specs.declared.kept.JumpTable.{JumpTable}
-use Rattle.flattening.specs.Orders.{pair}
 use Rattle.flattening.specs.Keeping.{Keeps}
 use Rattle.flattening.specs.Walks.{plain, arrows, Opened, Gives, Given, PutMore}
 

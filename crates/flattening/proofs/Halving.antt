@@ -2,7 +2,7 @@
 use Rattle.std.proofs.Common.{◌≡◌, ℕ, ◌+◌, ◌<◌, ◌≤◌, Bool, false, List, length, get_or, Decides, sym, subst, ⊎_elim, arith}
 use Rattle.std.proofs.lemmas.Bool.{cases_lt}
 use Rattle.table.specs.Lists.{StandsAt, InOrder}
-use Rattle.table.proofs.Lists.{stands_read, stands_same, stands_getD, stands_below}
+use Rattle.table.proofs.Lists.{stands_same, stands_getD}
 
 module _ {E : Type 0} (before : E → E → Type 0) (onward : (x y z : E) → before x y → before y z → before x z)
     (rows : List E) (e : E) (rising : InOrder before rows) (m : ℕ) (x : E) (at : StandsAt rows m x) where

@@ -1,11 +1,11 @@
 -- One element more in a list in order.
-use Rattle.std.proofs.Common.{◌≡◌, ℕ, zero, suc, ◌+◌, ◌-◌, ◌<◌, ◌≤◌, ◌⊎◌, ◌↔◌, List, [], ◌∷◌, ◌++◌, length, get_or, take, drop, set, Some, None, Option, sym, refl, ap, ◌∙◌, subst, inl, inr, ⊎_elim, append_assoc, arith}
+use Rattle.std.proofs.Common.{◌≡◌, ℕ, zero, suc, ◌+◌, ◌-◌, ◌<◌, ◌≤◌, ◌⊎◌, ◌↔◌, List, [], ◌∷◌, ◌++◌, length, take, drop, set, Some, None, Option, sym, refl, ap, ◌∙◌, subst, inl, inr, ⊎_elim, append_assoc, arith}
 use mathlib.Core.Option.{some}
 use mathlib.Core.List.Memᴰ
 use mathlib.Core.List.{Memᴰ}
 use lib.Seq.{paste}
 use Rattle.std.specs.List.{insert}
-use Rattle.std.proofs.lemmas.List.{set_split, take-append-le, take-take, take_at, drop_at, drop-take, drop_all, drop_more, take_all, length-append, length-take, length-take-le, length-drop}
+use Rattle.std.proofs.lemmas.List.{set_split, take-append-le, take-take, take_at, drop_at, drop-take, drop_all, drop_more, length-append, length-take-le, length-drop}
 use Rattle.table.specs.Lists.{StandsAt, InOrder}
 use Rattle.flattening.specs.Keeping.{At}
 use Rattle.table.proofs.Lists.{stands_below, stands_is, stands_last}

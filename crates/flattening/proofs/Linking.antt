@@ -1,7 +1,7 @@
 -- The jumps that the moves over names give are those of the unfolded machine.
-use Rattle.std.proofs.Common.{◌≡◌, ℕ, suc, ◌+◌, ◌-◌, ◌<◌, ◌≤◌, true, ◌↔◌, List, [], ◌∷◌, ◌++◌, get_or, is_some, Some, None, Option, sym, refl, ap, ◌∙◌, subst, add-one, arith}
+use Rattle.std.proofs.Common.{◌≡◌, ℕ, suc, ◌-◌, ◌<◌, ◌≤◌, true, ◌↔◌, List, [], ◌∷◌, ◌++◌, get_or, is_some, Some, None, Option, sym, refl, subst, add-one, arith}
 use mathlib.Core.List.{Memᴰ}
-use Rattle.book.specs.Grammar.{Grammar, rule, symbols, Rewrites}
+use Rattle.book.specs.Grammar.{rule, symbols, Rewrites}
 use Rattle.book.specs.Tables.{Name}
 use Rattle.table.specs.Lists.{InOrder}
 use Rattle.table.specs.Numbers.{value_in}
@@ -12,7 +12,7 @@ use Rattle.finding.specs.Laws.{Rises, Laws}
 use Rattle.finding.proofs.Laws.{numbered_laws, upto_ascending, upto_below}
 use Rattle.theory.specs.Items.{Sound, Dotted}
 use Rattle.theory.specs.Unfolding.{FinalNode, onward, node}
-use Rattle.theory.specs.Flattening.{Leads, Jump as JumpFrom, JumpLaws}
+use Rattle.theory.specs.Flattening.{Jump as JumpFrom, JumpLaws}
 use Rattle.theory.proofs.Items.{fit_sound, dotted_below, dotted_next, after_known, rule_first, first_placed, item_zero}
 use Rattle.theory.proofs.Flattening.{jump_laws}
 use Rattle.theory.proofs.Unfolding.{final_node}
@@ -20,7 +20,7 @@ use Rattle.machine.specs.declared.items.Items.{Items}
 use Rattle.machine.specs.Index.{Chain}
 use Rattle.machine.proofs.Indexing.{follower_at}
 use Rattle.flattening.specs.Places.{MoveOn}
-use Rattle.flattening.specs.Walks.{Spells, Ends, Opened, Gives, Given, AllOpened}
+use Rattle.flattening.specs.Walks.{Spells, Given, AllOpened}
 use Rattle.flattening.specs.Walks.Spells.{end, more}
 use Rattle.flattening.specs.Flat.{Unfolding}
 use Rattle.flattening.proofs.Walking.{spells_one}

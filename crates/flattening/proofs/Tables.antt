@@ -1,5 +1,5 @@
 -- The table of jumps keeps one jump more.
-use Rattle.std.proofs.Common.{◌≡◌, ℕ, zero, suc, ◌+◌, ◌-◌, ◌<◌, ◌≤◌, ◌⊎◌, ◌↔◌, List, [], ◌∷◌, ◌++◌, length, get_or, take, drop, set, Some, None, Option, sym, refl, ap, ◌∙◌, subst, inl, inr, ⊎_elim, add-one, arith}
+use Rattle.std.proofs.Common.{◌≡◌, ℕ, suc, ◌+◌, ◌-◌, ◌<◌, ◌≤◌, ◌↔◌, List, [], ◌∷◌, ◌++◌, length, get_or, take, drop, Some, None, Option, sym, refl, ap, ◌∙◌, subst, inl, inr, ⊎_elim, arith}
 use mathlib.Core.List.Memᴰ
 use mathlib.Core.List.{Memᴰ}
 use Rattle.std.specs.List.{insert}
@@ -11,7 +11,7 @@ use Rattle.table.proofs.Lists.{mem_at, at_mem, stands_below, stands_getD, stands
 use Rattle.table.proofs.Orders.{in_order_none}
 use Rattle.flattening.specs.declared.jump.Jump.{Jump}
 use Rattle.flattening.specs.declared.kept.JumpTable.{JumpTable}
-use Rattle.flattening.specs.Orders.{pair, Before}
+use Rattle.flattening.specs.Orders.{Before}
 use Rattle.flattening.specs.Places.{PlaceOf}
 use Rattle.flattening.specs.Keeping.{At, Keeps, PastRows, New}
 use Rattle.flattening.proofs.Inserting.{stands_take, take_stands, drop_head, take_inserted, stands_inserted, Put, Compared, put_some, put_after, put_are, put_rises, Sooner, put_next}

@@ -1,5 +1,5 @@
 -- What the table tells of the jumps of an unfolded machine.
-use Rattle.std.proofs.Common.{◌≡◌, ℕ, ◌≤◌, ◌⊎◌, ◌↔◌, List, [], ◌∷◌, map, length, take, Some, None, Ok, Err, Result, sym, refl, ap, ◌∙◌, subst, inl, inr, ⊎_elim, arith}
+use Rattle.std.proofs.Common.{◌≡◌, ℕ, ◌≤◌, ◌↔◌, List, [], map, length, take, Ok, Err, Result, sym, refl, ap, ◌∙◌, subst, inr, ⊎_elim, arith}
 use mathlib.Core.List.Memᴰ
 use mathlib.Core.List.{Memᴰ}
 use Rattle.std.proofs.lemmas.List.{take_all, length-take-le, length-map}
@@ -16,7 +16,7 @@ use Rattle.flattening.specs.declared.jump.Jump.{Jump}
 use Rattle.flattening.specs.declared.kept.JumpTable.{JumpTable}
 use Rattle.flattening.specs.declared.flat.FlatSummary.{FlatSummary}
 use Rattle.flattening.specs.Orders.{pair, Before}
-use Rattle.flattening.specs.Keeping.{At, Keeps, Counted}
+use Rattle.flattening.specs.Keeping.{At, Counted}
 use Rattle.flattening.specs.Walks.{Given, PutMore}
 use Rattle.flattening.specs.Flat.{Unfolding, JumpsOf, told, Told, JumpsFound, FlatIn}
 use Rattle.flattening.proofs.Linking.{moves_rise, jumps_are}

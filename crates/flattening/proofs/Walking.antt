@@ -1,5 +1,5 @@
 -- Walking over a right side, symbol by symbol.
-use Rattle.std.proofs.Common.{◌≡◌, ℕ, ◌+◌, ◌<◌, ◌≤◌, true, List, [], ◌∷◌, get_or, is_some, Some, None, Option, sym, refl, ap, ◌∙◌, subst, arith}
+use Rattle.std.proofs.Common.{◌≡◌, ℕ, ◌+◌, ◌<◌, true, List, get_or, is_some, Some, None, Option, sym, refl, ◌∙◌, subst, arith}
 use mathlib.Core.List.{Memᴰ}
 use Rattle.table.specs.Numbers.{value_in}
 use Rattle.table.specs.declared.numbers.NodeNo.{NodeNo}

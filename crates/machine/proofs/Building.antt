@@ -1,8 +1,7 @@
 -- From what the search answers to the machine.
-use Rattle.std.proofs.Common.{◌≡◌, ℕ, zero, suc, ◌+◌, ◌-◌, ◌<◌, ◌≤◌, min, ◌⊎◌, List, [], ◌∷◌, ◌++◌, map, length, get_or, take, Some, None, Ok, Err, Result, sym, refl, ap, ◌∙◌, subst, inl, inr, ⊎_elim, arith, length-take-le}
-use mathlib.Core.Option.{some}
+use Rattle.std.proofs.Common.{◌≡◌, ℕ, zero, suc, ◌≤◌, min, List, [], ◌∷◌, length, take, Some, None, Ok, Result, sym, ◌∙◌, subst, arith, length-take-le}
 use mathlib.Core.List.{Memᴰ}
-use lib.ListN.{get_elem?, length-map}
+use lib.ListN.{length-map}
 use Rattle.book.specs.declared.reader.Summary.{Summary}
 use Rattle.book.specs.Grammar.{Grammar}
 use Rattle.book.specs.Tables.{Holds}
@@ -11,27 +10,26 @@ use Rattle.table.specs.declared.sets.NumberSet.{NumberSet}
 use Rattle.table.specs.declared.numbers.ItemNo.{ItemNo}
 use Rattle.table.specs.declared.numbers.StateNo.{StateNo}
 use Rattle.table.specs.Lists.{StandsAt}
-use Rattle.table.specs.Sets.{In, members}
-use Rattle.table.proofs.Lists.{stands_map, stands_unmap, stands_below}
+use Rattle.table.specs.Sets.{members}
+use Rattle.table.proofs.Lists.{stands_map, stands_unmap}
 use Rattle.table.proofs.Rows.{members_in, in_members}
 use Rattle.finding.specs.declared.moves.Move.{Move}
 use Rattle.finding.specs.declared.moves.Count.{Count}
 use Rattle.finding.specs.declared.moves.Stop.{Stop}
 use Rattle.finding.specs.declared.moves.Stop.TheVariants.{Room, Entry, Arrow}
-use Rattle.finding.specs.Finding.{arrow, Bounded, within, Refused, Stopped}
-use Rattle.finding.specs.Finding.Refused.{empty, met}
-use Rattle.finding.specs.Finding.Stopped.{no_room, no_entry, no_move}
-use Rattle.finding.specs.Spaces.{Held, Answered}
+use Rattle.finding.specs.Finding.{arrow, within, Refused}
+use Rattle.finding.specs.Finding.Refused.{met}
+use Rattle.finding.specs.Finding.Stopped.{no_room}
+use Rattle.finding.specs.Spaces.{Answered}
 use Rattle.finding.proofs.Bounds.{whole_fits}
 use Rattle.theory.specs.Closure.{initial}
-use Rattle.theory.specs.Machine.{Machine, MachineLaws, HasItem, FinalState}
+use Rattle.theory.specs.Machine.{Machine, MachineLaws}
 use Rattle.theory.proofs.Items.{fit_sound}
 use Rattle.theory.proofs.States.{machine_laws}
 use Rattle.machine.specs.declared.items.Items.{Items}
-use Rattle.machine.specs.declared.machine.MachineSummary.{MachineSummary}
 use Rattle.machine.specs.Index.{Indexed}
 use Rattle.machine.specs.Closing.{ItemsOf, KernelOf}
-use Rattle.machine.specs.Reading.{grammar_of, machine_search, item_search, Readied}
+use Rattle.machine.specs.Reading.{machine_search, item_search, Readied}
 use Rattle.machine.specs.Machines.{refusal, sets, arrows, limits, MachineRefusal, MachineIn, FoundFinal, fault_of}
 use Rattle.machine.specs.Machines.MachineRefusal.{state_limit, move_limit}
 use Rattle.machine.proofs.Gotos.{grammar_read, closed_kernel}

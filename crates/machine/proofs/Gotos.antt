@@ -1,28 +1,25 @@
 -- Where a set of items leads, as the index tells it.
-use Rattle.std.proofs.Common.{◌≡◌, ℕ, zero, suc, ◌+◌, ◌-◌, ◌<◌, ◌≤◌, ◌⊎◌, ◌↔◌, List, [], ◌∷◌, ◌++◌, length, get_or, take, drop, Some, None, sym, refl, ap, ◌∙◌, subst, inl, inr, ⊎_elim, append_assoc, arith}
-use mathlib.Core.Option.{Option, none, some}
+use Rattle.std.proofs.Common.{◌≡◌, ℕ, suc, ◌<◌, ◌≤◌, ◌↔◌, List, [], ◌∷◌, ◌++◌, length, get_or, take, drop, Some, None, sym, refl, ap, ◌∙◌, subst, ⊎_elim, append_assoc, arith}
+use mathlib.Core.Option.{none, some}
 use mathlib.Core.List.{Memᴰ}
-use lib.ListN.{get_elem?}
 use Rattle.std.specs.List.{flat_map}
 use Rattle.std.proofs.lemmas.List.{take_at, drop_at}
 use Rattle.book.specs.Grammar.{Rule, rule, Grammar, symbols}
-use Rattle.book.specs.Tables.{rule_entries, header, entries, Holds}
-use Rattle.table.specs.Lists.{StandsAt, Lacks}
+use Rattle.book.specs.Tables.{rule_entries, Holds}
+use Rattle.table.specs.Lists.{StandsAt}
 use Rattle.table.specs.Sets.{Row, In, members}
 use Rattle.table.specs.declared.sets.NumberSet.{NumberSet}
 use Rattle.table.specs.declared.numbers.ItemNo.{ItemNo}
 use Rattle.table.proofs.Lists.{stands_push}
 use Rattle.table.proofs.Rows.{members_in, in_members}
 use Rattle.table.proofs.Same.{set_same_members}
-use Rattle.finding.specs.Finding.{Search}
-use Rattle.finding.specs.Spaces.{Moves, Rests, LeastMove, Reached}
+use Rattle.finding.specs.Spaces.{LeastMove, Reached}
 use Rattle.finding.proofs.Plain.{plain}
-use Rattle.theory.specs.Items.{item, item_count, Dotted}
-use Rattle.theory.specs.Closure.{Closed, closure, goto, Carried}
+use Rattle.theory.specs.Items.{item_count, Dotted}
+use Rattle.theory.specs.Closure.{closure, goto, Carried}
 use Rattle.theory.proofs.Items.{dotted_below, below_dotted, dotted_next, after_known, fit_sound}
 use Rattle.theory.proofs.Closure.{closure_members, goto_carried, goto_none, goto_is, goto_only}
 use Rattle.machine.specs.declared.items.Items.{Items}
-use Rattle.machine.specs.Index.{follower}
 use Rattle.machine.specs.Closing.{ItemsOf, KernelOf}
 use Rattle.machine.specs.Reading.{rules_of, grammar_of, machine_search, item_search, Readied, LeastAfter, CarriedOver}
 use Rattle.machine.proofs.Indexing.{follower_at}

@@ -2,12 +2,11 @@
 use Rattle.std.proofs.Common.{◌≡◌, ℕ, zero, suc, ◌+◌, ◌-◌, ◌<◌, ◌≤◌, List, [], ◌∷◌, ◌++◌, length, get_or, take, drop, set, replicate, sym, refl, ap, ◌∙◌, subst, arith}
 use mathlib.Core.Option.{some}
 use lib.ListN.{get_elem?}
-use Rattle.std.specs.List.{AllByRecursion}
 use Rattle.std.proofs.ByRecursion.{All-get_or}
 use Rattle.std.proofs.lemmas.List.{length-take, length-set, length-replicate}
 use Rattle.book.specs.declared.reader.Summary.{Summary}
-use Rattle.book.specs.Grammar.{Rule, rule, Grammar, symbols}
-use Rattle.book.specs.Tables.{Name, FitRule, place, Holds, dots as rules_count}
+use Rattle.book.specs.Grammar.{Rule, rule, Grammar}
+use Rattle.book.specs.Tables.{FitRule, place, Holds, dots as rules_count}
 use Rattle.book.proofs.Held.{Known, length_entries}
 use Rattle.book.proofs.Places.{RuleAt, rule_at}
 use Rattle.book.proofs.Unique.{holds_one}

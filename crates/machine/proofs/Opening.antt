@@ -1,12 +1,11 @@
 -- Opening a name: the first items of its rules, along the chain.
-use Rattle.std.proofs.Common.{◌≡◌, ℕ, zero, suc, ◌+◌, ◌-◌, ◌<◌, ◌≤◌, ◌⊎◌, ◌↔◌, List, [], ◌∷◌, ◌++◌, length, get_or, take, sym, refl, ap, ◌∙◌, subst, inl, inr, ⊎_elim, arith}
+use Rattle.std.proofs.Common.{◌≡◌, ℕ, ◌+◌, ◌-◌, ◌<◌, ◌≤◌, List, ◌∷◌, get_or, take, sym, refl, ap, ◌∙◌, subst, inl, inr, ⊎_elim, arith}
 use mathlib.Core.List.Memᴰ
 use mathlib.Core.List.{Memᴰ}
 use Rattle.std.proofs.lemmas.List.{take-take}
 use Rattle.book.specs.Grammar.{Grammar}
 use Rattle.book.specs.Tables.{Name}
 use Rattle.table.specs.Sets.{In}
-use Rattle.theory.specs.Items.{Dotted}
 use Rattle.theory.specs.Closure.{Closed}
 use Rattle.theory.specs.Closure.Closed.{opened}
 use Rattle.theory.proofs.Items.{dotted_below}
@@ -14,7 +13,7 @@ use Rattle.machine.specs.declared.items.Items.{Items}
 use Rattle.machine.specs.declared.closure.Closing.{Closing}
 use Rattle.machine.specs.Index.{Chain, FirstOf}
 use Rattle.machine.specs.Index.Chain.{end, link}
-use Rattle.machine.specs.Closing.{ItemsOf, noted, Notes, AfterDot, Within, Grown, ToOpen}
+use Rattle.machine.specs.Closing.{ItemsOf, Notes, AfterDot, Grown, ToOpen}
 
 pub grown_none : (c : Closing) → Notes c → Grown c c
 grown_none c n = record { notes = n; grows = omega arith; kept = refl; still = λ k h. h }

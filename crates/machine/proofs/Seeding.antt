@@ -1,17 +1,15 @@
 -- From a kernel to its closure.
-use Rattle.std.proofs.Common.{◌≡◌, ℕ, zero, suc, ◌+◌, ◌-◌, ◌<◌, ◌≤◌, Bool, true, false, ◌⊎◌, ◌↔◌, List, [], ◌∷◌, ◌++◌, length, get_or, take, replicate, sym, refl, ap, ◌∙◌, subst, inl, inr, ⊎_elim, arith}
+use Rattle.std.proofs.Common.{◌≡◌, ℕ, zero, suc, ◌+◌, ◌-◌, ◌<◌, ◌≤◌, false, List, [], ◌∷◌, ◌++◌, length, get_or, take, replicate, sym, refl, ap, ◌∙◌, subst, ⊎_elim, arith}
 use mathlib.Core.List.Memᴰ
 use mathlib.Core.List.{Memᴰ}
-use Rattle.std.proofs.lemmas.List.{take_more, take-take, get_or-replicate, length-replicate}
+use Rattle.std.proofs.lemmas.List.{take_more, take-take, length-replicate}
 use Rattle.std.proofs.lemmas.Bool.{cases_lt}
 use Rattle.book.specs.Grammar.{Grammar}
 use Rattle.book.specs.Tables.{Name}
-use Rattle.table.specs.Sets.{Row, In, members, NextMember}
+use Rattle.table.specs.Sets.{Row, In, members}
 use Rattle.table.specs.declared.sets.NumberSet.{NumberSet}
 use Rattle.table.specs.declared.numbers.ItemNo.{ItemNo}
-use Rattle.table.specs.Lists.{Ascending}
 use Rattle.table.proofs.Rows.{members_in, in_members, members_ascending}
-use Rattle.theory.specs.Items.{Dotted, item_count}
 use Rattle.theory.specs.Closure.{Closed, closure}
 use Rattle.theory.specs.Closure.Closed.{kernel, opened}
 use Rattle.theory.proofs.Items.{after_known, first_rewrites, fit_sound}
@@ -19,7 +17,7 @@ use Rattle.theory.proofs.Closure.{closure_unique}
 use Rattle.machine.specs.declared.items.Items.{Items}
 use Rattle.machine.specs.declared.closure.Closing.{Closing}
 use Rattle.machine.specs.Index.{FirstOf}
-use Rattle.machine.specs.Closing.{ItemsOf, marks, noted, Notes, AfterDot, Within, Grown, OpenedTo, KernelOf}
+use Rattle.machine.specs.Closing.{ItemsOf, marks, noted, Notes, Within, Grown, OpenedTo}
 
 -- nothing yet
 

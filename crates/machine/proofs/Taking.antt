@@ -1,19 +1,17 @@
 -- Putting one item into a closure in the making.
-use Rattle.std.proofs.Common.{◌≡◌, ℕ, zero, suc, ◌+◌, ◌-◌, ◌<◌, ◌≤◌, ◌⊎◌, ◌↔◌, List, [], ◌∷◌, ◌++◌, length, get_or, take, sym, refl, ap, ◌∙◌, subst, inl, inr, ⊎_elim, arith}
-use mathlib.Core.List.{Memᴰ}
-use Rattle.book.specs.Grammar.{Grammar, symbols}
+use Rattle.std.proofs.Common.{◌≡◌, ℕ, ◌+◌, ◌-◌, ◌<◌, ◌≤◌, ◌⊎◌, List, [], ◌∷◌, get_or, sym, refl, ap, ◌∙◌, subst, inl, inr, ⊎_elim, arith}
+use Rattle.book.specs.Grammar.{Grammar}
 use Rattle.book.specs.Tables.{Name}
 use Rattle.table.specs.Sets.{In, Inserted}
 use Rattle.table.specs.declared.sets.NumberSet.{NumberSet}
 use Rattle.table.specs.declared.numbers.ItemNo.{ItemNo}
-use Rattle.theory.specs.Items.{item, item_count, Dotted}
+use Rattle.theory.specs.Items.{item_count, Dotted}
 use Rattle.theory.specs.Closure.{Closed}
 use Rattle.theory.specs.Closure.Closed.{kernel, opened}
 use Rattle.theory.proofs.Items.{dotted_below, below_dotted, after_known, fit_sound}
 use Rattle.machine.specs.declared.items.Items.{Items}
 use Rattle.machine.specs.declared.closure.Closing.{Closing}
-use Rattle.machine.specs.Index.{follower}
-use Rattle.machine.specs.Closing.{ItemsOf, noted, Notes, NotedMore, AfterDot, Within, Grown}
+use Rattle.machine.specs.Closing.{ItemsOf, Notes, NotedMore, AfterDot, Within, Grown}
 use Rattle.machine.proofs.Indexing.{follower_at}
 
 -- an item of a closure is an item of the grammar

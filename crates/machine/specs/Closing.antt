@@ -1,5 +1,5 @@
 -- A closure in the making: the items so far, and the names that stand after their dots.
-use Rattle.std.specs.Prelude.{◌≡◌, ℕ, suc, ◌+◌, ◌-◌, ◌<◌, ◌≤◌, Bool, true, false, ◌⊎◌, ◌↔◌, List, [], ◌∷◌, ◌++◌, length, take, Decides, slice_index_or}
+use Rattle.std.specs.Prelude.{◌≡◌, ℕ, suc, ◌+◌, ◌-◌, ◌<◌, ◌≤◌, Bool, true, false, ◌⊎◌, ◌↔◌, List, [], ◌∷◌, length, take, Decides, slice_index_or}
 use mathlib.Core.List.{Memᴰ}
 use Rattle.book.specs.Grammar.{Grammar}
 use Rattle.book.specs.Tables.{Name, Fit}

@@ -1,5 +1,5 @@
 -- What the call for the characteristic machine answers and leaves.
-use Rattle.std.specs.Prelude.{◌≡◌, ℕ, ◌<◌, ◌≤◌, min, List, [], ◌∷◌, map, length, take, Some, None, Ok, Err, Option, Result}
+use Rattle.std.specs.Prelude.{ℕ, ◌≤◌, min, List, map, length, take, Some, None, Ok, Err, Option, Result}
 use Rattle.book.specs.declared.fault.Refusal.{Refusal}
 use Rattle.book.specs.Grammar.{Grammar}
 use Rattle.book.specs.Refusals.{refusal as book_refusal}

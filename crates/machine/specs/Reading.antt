@@ -1,5 +1,5 @@
 -- The grammar of a table, read off, and what the machine's space searches.
-use Rattle.std.specs.Prelude.{◌≡◌, ℕ, zero, suc, ◌+◌, ◌<◌, ◌≤◌, ◌⊎◌, List, [], ◌∷◌, ◌++◌, length, take, drop, slice_index}
+use Rattle.std.specs.Prelude.{◌≡◌, ℕ, zero, suc, ◌<◌, ◌≤◌, ◌⊎◌, List, [], ◌∷◌, take, drop, slice_index}
 use Rattle.book.specs.Grammar.{Rule, rule, Grammar, symbols}
 use Rattle.book.specs.Tables.{Holds}
 use Rattle.table.specs.Lists.{StandsAt}

@@ -1,18 +1,17 @@
 -- What both takes: pairs of classes, and their halves below.
-use Rattle.std.specs.Prelude.{◌≡◌, ℕ, ◌+◌, ◌<◌, ◌≤◌, ◌⊎◌, List, [], ◌∷◌, ◌++◌, map, length, get_or, Some, None, Option, refl}
-use Rattle.std.proofs.Common.{sym, ap, subst, ◌∙◌, inl, inr, ⊎_elim, arith}
-use mathlib.Core.List.{Memᴰ}
+use Rattle.std.specs.Prelude.{◌≡◌, ℕ, ◌≤◌, List, [], ◌∷◌, ◌++◌, map, length, Some, None, Option, refl}
+use Rattle.std.proofs.Common.{sym, ap, subst, ◌∙◌, arith}
 use Rattle.std.proofs.lemmas.List.{length-map, map_push}
 use Rattle.table.specs.Lists.{StandsAt, Lacks, Distinct}
 use Rattle.table.specs.declared.numbers.ClassNo.{ClassNo}
 use Rattle.table.proofs.Lists.{stands_below, stands_same, stands_is, stands_map, stands_unmap, distinct_one, distinct_push}
 use Rattle.theory.specs.Policies.{Class, left_class, right_class}
 use Rattle.theory.specs.Policies.Class.{states, pair}
-use Rattle.policy.specs.Classes.{Room, Taken, class_at, Tracks, HasPlace}
+use Rattle.policy.specs.Classes.{Room, Taken, class_at, HasPlace}
 use Rattle.policy.specs.Classes.Taken.{old, new, unheld, no_place}
 use Rattle.policy.specs.Places.{Placed}
 use Rattle.policy.specs.Places.Placed.{old as p_old, new as p_new, full as p_full}
-use Rattle.policy.proofs.Tracking.{Step, refused, entry_at, place_is, place_was, no_place_is, same_classes, tracks_more, tracks_first}
+use Rattle.policy.proofs.Tracking.{Step, refused, entry_at, place_is, no_place_is, same_classes, tracks_more, tracks_first}
 use Rattle.policies.specs.declared.both.Pair.{Pair}
 use Rattle.policies.specs.Pairs.{pair_of, first_number, second_number, pair_class, pair_classes, pair_room, Paired}
 

@@ -1,5 +1,5 @@
 -- Pairs of classes by pairs of numbers.
-use Rattle.std.specs.Prelude.{ℕ, ◌<◌, List, [], ◌∷◌, map, length}
+use Rattle.std.specs.Prelude.{ℕ, ◌<◌, List, map, length}
 use Rattle.table.specs.Lists.{Distinct}
 use Rattle.finding.specs.Numbered.{Arrow}
 use Rattle.theory.specs.Policies.{Class, Meaning, left_class, right_class, both, Finer}

@@ -1,5 +1,5 @@
 -- Find-or-add among the first rows of a fixed table, as the list of its entries shows it.
-use Rattle.std.proofs.Common.{◌≡◌, ℕ, ◌+◌, ◌<◌, ◌≤◌, List, [], ◌∷◌, ◌++◌, length, take, set, Some, None, Option, sym, refl, ap, ◌∙◌, subst, arith, length-take-le}
+use Rattle.std.proofs.Common.{◌≡◌, ℕ, ◌<◌, List, [], ◌∷◌, length, take, set, Some, None, Option, sym, refl, ◌∙◌, subst, arith, length-take-le}
 use Rattle.std.proofs.lemmas.List.{take_more_set, length-set}
 use Rattle.table.specs.Found.{FoundOrAdded}
 use Rattle.table.specs.Found.FoundOrAdded.{old, new, full}

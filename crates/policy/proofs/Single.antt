@@ -1,5 +1,5 @@
 -- A single class, which follows itself.
-use Rattle.std.proofs.Common.{◌≡◌, ℕ, ◌<◌, ◌≤◌, List, [], ◌∷◌, Some, None, sym, refl, subst, arith}
+use Rattle.std.proofs.Common.{◌≡◌, ℕ, ◌<◌, [], ◌∷◌, Some, None, sym, refl, subst, arith}
 use Rattle.table.specs.Lists.{StandsAt}
 use Rattle.table.specs.declared.numbers.ClassNo.{ClassNo}
 use Rattle.theory.specs.Policies.{Class}

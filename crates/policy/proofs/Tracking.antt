@@ -1,11 +1,11 @@
 -- The classes held are those of the entries: one more entry, and which class has a place.
-use Rattle.std.proofs.Common.{◌≡◌, ℕ, zero, suc, ◌+◌, ◌<◌, ◌≤◌, ◌⊎◌, List, [], ◌∷◌, ◌++◌, map, length, get_or, Some, None, Option, sym, refl, ap, ◌∙◌, subst, inl, inr, ⊎_elim, arith}
+use Rattle.std.proofs.Common.{◌≡◌, ℕ, zero, suc, ◌<◌, ◌⊎◌, List, [], ◌∷◌, ◌++◌, map, length, Some, None, sym, refl, ap, ◌∙◌, subst, inl, inr, ⊎_elim, arith}
 use mathlib.Core.List.Memᴰ
 use mathlib.Core.List.{Memᴰ}
-use Rattle.std.proofs.lemmas.List.{length_push, map_push, get_or_append_left, get_or_push}
+use Rattle.std.proofs.lemmas.List.{map_push}
 use Rattle.table.specs.Lists.{StandsAt, Lacks, Distinct}
 use Rattle.table.specs.declared.numbers.ClassNo.{ClassNo}
-use Rattle.table.proofs.Lists.{stands_below, stands_same, stands_is, stands_getD, stands_left, stands_last, stands_push, stands_map, mem_at, at_mem, distinct_push}
+use Rattle.table.proofs.Lists.{stands_below, stands_same, stands_is, stands_getD, stands_left, stands_last, stands_push, mem_at, at_mem}
 use Rattle.finding.specs.Numbered.{Firsts}
 use Rattle.finding.specs.Numbered.Firsts.{nil as f_nil, new as f_new}
 use Rattle.finding.proofs.Unique.{firsts_same, firsts_mem}

@@ -1,12 +1,11 @@
 -- What path takes: the classes that links stand for, before and after.
-use Rattle.std.specs.Prelude.{◌≡◌, ℕ, zero, suc, ◌+◌, ◌<◌, ◌≤◌, ◌⊎◌, List, [], ◌∷◌, ◌++◌, map, length, get_or, Some, None, Option, refl}
-use Rattle.std.proofs.Common.{sym, ap, subst, ◌∙◌, inl, inr, ⊎_elim, arith}
+use Rattle.std.specs.Prelude.{◌≡◌, ℕ, zero, suc, ◌<◌, ◌≤◌, List, [], ◌∷◌, ◌++◌, map, length, Some, None, Option}
+use Rattle.std.proofs.Common.{sym, ap, subst, ◌∙◌, ⊎_elim, arith}
 use Rattle.std.proofs.Math.Option.{some}
-use mathlib.Core.List.{Memᴰ}
 use Rattle.std.proofs.lemmas.List.{length_push, length-map, same_from_push, map_push}
 use Rattle.table.specs.Lists.{StandsAt, Lacks, Distinct}
 use Rattle.table.specs.declared.numbers.ClassNo.{ClassNo}
-use Rattle.table.proofs.Lists.{stands_below, stands_same, stands_is, stands_some, stands_left, stands_push, stands_map, stands_unmap, mem_at, at_mem, distinct_push}
+use Rattle.table.proofs.Lists.{stands_below, stands_same, stands_is, stands_some, stands_left, stands_push, stands_map, stands_unmap, mem_at, distinct_push}
 use Rattle.theory.specs.Policies.{Class, listed, cut_after}
 use Rattle.theory.specs.Policies.Class.{states}
 use Rattle.policy.specs.declared.path.Link.{Link}

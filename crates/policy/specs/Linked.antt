@@ -1,11 +1,11 @@
 -- Links and the lists of states that they stand for.
-use Rattle.std.specs.Prelude.{◌≡◌, ℕ, zero, suc, ◌+◌, ◌<◌, ◌≤◌, true, false, ◌≢◌, ◌⊎◌, List, [], ◌∷◌, ◌++◌, length, get_or, take, Some, None, Option, ◌==◌, nat_eq, slice_index_or, refl}
-use Rattle.std.proofs.Common.{sym, ap, subst, ◌∙◌, inl, inr, ⊎_elim, zero-add, arith, eq-eqb, eqb-true}
+use Rattle.std.specs.Prelude.{◌≡◌, ℕ, zero, suc, ◌+◌, ◌<◌, ◌≤◌, true, false, ◌≢◌, List, [], ◌∷◌, ◌++◌, length, get_or, take, Some, None, Option, ◌==◌, nat_eq, slice_index_or, refl}
+use Rattle.std.proofs.Common.{sym, ap, subst, ◌∙◌, ⊎_elim, zero-add, arith, eq-eqb, eqb-true}
 use Rattle.std.proofs.Math.Option.{some}
 use mathlib.Core.List.Memᴰ
 use mathlib.Core.List.{Memᴰ}
-use Rattle.std.proofs.lemmas.List.{get_or_default, length_push, same_from_push}
-use Rattle.table.specs.Lists.{StandsAt, Lacks, Distinct}
+use Rattle.std.proofs.lemmas.List.{get_or_default, length_push}
+use Rattle.table.specs.Lists.{StandsAt, Distinct}
 use Rattle.table.specs.declared.numbers.ClassNo.{ClassNo}
 use Rattle.table.proofs.Lists.{stands_below, stands_same, stands_is, stands_getD, stands_left, stands_last, stands_read, at_mem}
 use Rattle.theory.specs.Policies.{cut_after}

@@ -1,5 +1,5 @@
 -- Lists of states by links: each link adds a state to the list of the link behind it.
-use Rattle.std.specs.Prelude.{◌≡◌, ℕ, ◌<◌, List, [], ◌∷◌, ◌++◌, map, Some, None, Option, slice_index_or}
+use Rattle.std.specs.Prelude.{ℕ, ◌<◌, List, [], ◌∷◌, ◌++◌, map, Some, None, Option, slice_index_or}
 use mathlib.Core.List.{Memᴰ}
 use Rattle.table.specs.Lists.{StandsAt, Distinct}
 use Rattle.table.specs.declared.numbers.ClassNo.{ClassNo}

@@ -1,8 +1,6 @@
 -- From what the search answers to the unfolded machine.
-use Rattle.std.proofs.Common.{◌≡◌, ℕ, ◌<◌, ◌≤◌, min, List, [], ◌∷◌, ◌++◌, map, length, take, Ok, Err, Result, sym, refl, ap, ◌∙◌, subst, arith, length-take-le}
-use mathlib.Core.List.{Memᴰ}
+use Rattle.std.proofs.Common.{◌≡◌, ℕ, ◌<◌, ◌≤◌, min, List, [], ◌∷◌, length, take, Ok, Result, sym, refl, ap, subst, arith, length-take-le}
 use lib.ListN.{length-map}
-use Rattle.table.specs.Lists.{StandsAt}
 use Rattle.table.specs.declared.numbers.NodeNo.{NodeNo}
 use Rattle.table.proofs.Lists.{stands_some}
 use Rattle.finding.specs.declared.moves.Count.{Count}
@@ -24,7 +22,7 @@ use Rattle.policy.proofs.Tracking.{tracks_first}
 use Rattle.unfolding.specs.declared.node.Node.{Node}
 use Rattle.unfolding.specs.Nodes.{class_number, node_of, nodes_of, node_search}
 use Rattle.unfolding.specs.Refusals.{refusal, fault_of}
-use Rattle.unfolding.specs.Unfoldings.{node_arrows, first_node, limits, UnfoldingRefusal, UnfoldedIn}
+use Rattle.unfolding.specs.Unfoldings.{first_node, limits, UnfoldingRefusal, UnfoldedIn}
 use Rattle.unfolding.specs.Unfoldings.UnfoldingRefusal.{class_unfit, node_limit, move_limit}
 
 abbrev first_row : Node

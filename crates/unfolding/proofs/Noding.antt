@@ -1,21 +1,17 @@
 -- Nodes as a space: what it answers is where the nodes lead, and the classes held are those of the nodes.
-use Rattle.std.proofs.Common.{◌≡◌, ℕ, zero, suc, ◌+◌, ◌<◌, ◌≤◌, ◌⊎◌, List, [], ◌∷◌, ◌++◌, map, length, Some, None, Option, sym, refl, ap, ◌∙◌, subst, inl, inr, ⊎_elim, arith}
-use mathlib.Core.Option.{some, none}
-use mathlib.Core.List.{Memᴰ}
+use Rattle.std.proofs.Common.{◌≡◌, ℕ, ◌<◌, List, [], ◌∷◌, ◌++◌, map, Some, None, Option, sym, refl, ap, ◌∙◌, subst, ⊎_elim, arith}
 use Rattle.table.specs.Lists.{StandsAt, Lacks, Distinct}
 use Rattle.table.specs.declared.numbers.ClassNo.{ClassNo}
 use Rattle.table.specs.declared.numbers.StateNo.{StateNo}
-use Rattle.table.proofs.Lists.{stands_same, stands_is, stands_unmap, mem_at}
-use Rattle.finding.specs.Finding.{Search}
+use Rattle.table.proofs.Lists.{stands_is, stands_unmap}
 use Rattle.finding.specs.Numbered.{Arrow}
 use Rattle.finding.specs.Spaces.{LeastMove, Reached}
 use Rattle.theory.specs.Policies.{Class, Meaning}
 use Rattle.theory.specs.Policies.Class.{states}
-use Rattle.theory.specs.Unfolding.{Node as MeantNode, node, along, onward}
-use Rattle.theory.proofs.Lists.{some_one}
+use Rattle.theory.specs.Unfolding.{Node as MeantNode, node}
 use Rattle.theory.proofs.Unfolding.{along_mem, onward_made, onward_none}
 use Rattle.policy.specs.Classes.{Room, Taken, pushed, class_at, Tracks, HasPlace}
-use Rattle.policy.proofs.Tracking.{Step, step, refused, map_same, entry_at, no_entry, place_is, no_place_is, tracks_more, tracks_first}
+use Rattle.policy.proofs.Tracking.{Step, step, refused, map_same, entry_at, place_is, no_place_is, tracks_more}
 use Rattle.unfolding.specs.declared.node.Node.{Node}
 use Rattle.unfolding.specs.Moves.{Ordered, LeastSymbol}
 use Rattle.unfolding.specs.Nodes.{class_number, node_of, nodes_of, node_search}

@@ -1,9 +1,9 @@
 -- Halving a list of moves that rises, and what it finds.
-use Rattle.std.proofs.Common.{◌≡◌, ℕ, zero, suc, ◌+◌, ◌<◌, ◌≤◌, ◌⊎◌, List, [], ◌∷◌, map, length, get_or, sym, refl, ap, ◌∙◌, subst, inl, inr, ⊎_elim, arith}
+use Rattle.std.proofs.Common.{◌≡◌, ℕ, ◌+◌, ◌<◌, ◌≤◌, List, length, get_or, refl, ap, ◌∙◌, subst, inl, inr, ⊎_elim, arith}
 use mathlib.Core.Option.{some, none}
 use mathlib.Core.List.{Memᴰ}
 use Rattle.std.proofs.lemmas.List.{length-map}
-use Rattle.std.proofs.lemmas.Bool.{cases_lt, cases_eq}
+use Rattle.std.proofs.lemmas.Bool.{cases_lt}
 use Rattle.table.specs.Lists.{StandsAt, InOrder}
 use Rattle.table.specs.declared.numbers.StateNo.{StateNo}
 use Rattle.table.proofs.Lists.{stands_below, stands_same, stands_getD, stands_map, stands_some, mem_at, at_mem}
@@ -12,7 +12,7 @@ use Rattle.finding.specs.Laws.{Rises}
 use Rattle.finding.specs.Numbered.{Arrow}
 use Rattle.theory.specs.Unfolding.{along}
 use Rattle.theory.proofs.Unfolding.{along_is, along_mem, along_none}
-use Rattle.unfolding.specs.Moves.{state_arrow, state_arrows, Before, Parted, Ordered}
+use Rattle.unfolding.specs.Moves.{state_arrow, state_arrows, Before, Parted}
 
 pub arrows_length : (ms : List (Move StateNo)) → length (state_arrows ms) ≡ length ms
 arrows_length ms = length-map ms state_arrow

@@ -1,5 +1,5 @@
 -- What unfolding answers and leaves.
-use Rattle.std.specs.Prelude.{◌≡◌, ℕ, ◌<◌, ◌≤◌, min, List, map, length, take, Ok, Err, Result}
+use Rattle.std.specs.Prelude.{ℕ, ◌<◌, ◌≤◌, min, List, map, length, take, Ok, Err, Result}
 use Rattle.book.specs.declared.fault.Refusal.{Refusal}
 use Rattle.table.specs.declared.numbers.NodeNo.{NodeNo}
 use Rattle.finding.specs.declared.moves.Count.{Count}

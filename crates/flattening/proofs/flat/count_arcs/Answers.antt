@@ -1,6 +1,6 @@
-use Rattle.std.proofs.Common.{◌≡◌, ◌+◌, ◌≤◌, length, get_or, sym, ap, ◌∙◌, arith}
+use Rattle.std.proofs.Common.{◌+◌, length, get_or, sym, ap, ◌∙◌, arith}
 use Rattle.theory.specs.Flattening.{word_moves}
-use Rattle.flattening.specs.Walks.{plain, arrows}
+use Rattle.flattening.specs.Walks.{plain}
 use Rattle.flattening.proofs.Counting.{count_word, count_name}
 use Rattle.flattening.proofs.Gathering.{no_move, arrows_more, arrows_all}
 use Rattle.flattening.proofs.flat.count_arcs.Goals as goal

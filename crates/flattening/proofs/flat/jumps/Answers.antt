@@ -4,8 +4,8 @@ use Rattle.flattening.proofs.Linking.{moves_rise, all_opened}
 use Rattle.flattening.proofs.Telling.{jumps_found}
 use Rattle.flattening.proofs.flat.jumps.Goals as goal
 
-pub put-all-requires : goal.put-all-requires
-put-all-requires c =
+pub put_all-requires : goal.put_all-requires
+put_all-requires c =
     record {
       rising = moves_rise c.args.items.now (arrows c.args.moves.now) c.requires;
       opened = all_opened c.args.items.now (arrows c.args.moves.now) c.requires;
@@ -14,5 +14,5 @@ put-all-requires c =
 
 pub returns : goal.returns
 returns c u =
-    jumps_found c.args.items.now (arrows c.args.moves.now) u c.put-all.new.table c.put-all.ensures.all _ c.count.result _
-    (c.put-all.ensures.limit ∙ c.new-table.ensures.limit) (search rules) c.count.ensures
+    jumps_found c.args.items.now (arrows c.args.moves.now) u c.put_all.new.table c.put_all.ensures.all _ c.count.result _
+    (c.put_all.ensures.limit ∙ c.new-table.ensures.limit) (search rules) c.count.ensures

@@ -1,4 +1,4 @@
-use Rattle.std.proofs.Common.{◌≡◌, List, [], ◌∷◌, ◌++◌, get_or, take, sym, refl, ap, ◌∙◌, subst, arith}
+use Rattle.std.proofs.Common.{List, [], ◌∷◌, ◌++◌, get_or, take, sym, refl, ap, ◌∙◌, subst, arith}
 use Rattle.finding.specs.Numbered.{Arrow}
 use Rattle.flattening.specs.declared.kept.JumpTable.{JumpTable}
 use Rattle.flattening.specs.Walks.{plain, arrows, Given, PutMore}
@@ -9,8 +9,8 @@ use Rattle.flattening.proofs.walk.put_all.Goals.{then-over-items, else-over-item
 pub loop-over-init : goal.loop-over-init
 loop-over-init c = (refl, refl, gather_none c.args.items.now (arrows c.args.moves.now) c.requires.none)
 
-pub put-over-requires : goal.put-over-requires
-put-over-requires c =
+pub put_over-requires : goal.put_over-requires
+put_over-requires c =
     let p = c.loop-over.invariant.2 in
     record {
       rising = c.requires.rising;
@@ -30,14 +30,14 @@ loop-over-preserved c =
     elim c.if-over-items.branch [
       | then-over-items w ↦
           let o = c.requires.opened m (arrow_among c.args.moves.now c.loop-over.over-index no_move c.loop-over-test.true) w.if-over-items.true in (
-            ap (λ (t : JumpTable). t.rows.name) w.table-is ∙ w.put-over.ensures.lent ∙ i.0,
-            ap (λ (t : JumpTable). t.limit) w.table-is ∙ w.put-over.ensures.limit ∙ i.1,
+            ap (λ (t : JumpTable). t.rows.ghost_name) w.table-is ∙ w.put_over.ensures.lent ∙ i.0,
+            ap (λ (t : JumpTable). t.limit) w.table-is ∙ w.put_over.ensures.limit ∙ i.1,
             subst (λ ms. PutMore [] (Given items moves ms) c.if-over-items.table) (sym more)
                 (subst (PutMore [] (Given items moves (some ++ (m ∷ [])))) (sym w.table-is)
-                (gather_name items moves m some i.2 _ o w.if-over-items.true (λ found k. w.put-over.ensures.more found o k))),
+                (gather_name items moves m some i.2 _ o w.if-over-items.true (λ found k. w.put_over.ensures.more found o k))),
           )
       | else-over-items w ↦ (
-        ap (λ (t : JumpTable). t.rows.name) w.table-is ∙ i.0,
+        ap (λ (t : JumpTable). t.rows.ghost_name) w.table-is ∙ i.0,
         ap (λ (t : JumpTable). t.limit) w.table-is ∙ i.1,
         subst (λ ms. PutMore [] (Given items moves ms) c.if-over-items.table) (sym more)
             (subst (PutMore [] (Given items moves (some ++ (m ∷ [])))) (sym w.table-is) (gather_word items moves m some i.2 w.if-over-items.false)),

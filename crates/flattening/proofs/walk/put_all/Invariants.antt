@@ -1,4 +1,4 @@
-use Rattle.std.proofs.Common.{◌≡◌, List, [], take}
+use Rattle.std.proofs.Common.{◌≡◌, [], take}
 use Rattle.flattening.specs.Walks.{arrows, Given, PutMore}
 use Rattle.flattening.proofs.walk.put_all.Given as goal
 

@@ -1,7 +1,5 @@
-use Rattle.std.proofs.Common.{◌≡◌, List, refl, ◌∙◌, subst, arith}
-use Rattle.flattening.specs.declared.jump.Jump.{Jump}
-use Rattle.flattening.specs.Keeping.{Keeps}
-use Rattle.flattening.specs.Walks.{plain, arrows, Opened}
+use Rattle.std.proofs.Common.{refl, ◌∙◌, subst, arith}
+use Rattle.flattening.specs.Walks.{plain, arrows}
 use Rattle.flattening.proofs.Chains.{PutTo, start_small, put_start, put_ends, put_falls, put_next, put_end}
 use Rattle.flattening.proofs.walk.put_over.Goals as goal
 

@@ -1,4 +1,4 @@
-use Rattle.std.proofs.Common.{ℕ, ◌+◌, sym, subst, arith}
+use Rattle.std.proofs.Common.{ℕ, ◌+◌, subst}
 use Rattle.flattening.specs.Walks.{arrows, Ends}
 use Rattle.flattening.proofs.Walking.{spells_below, walk_moves, walk_on, walk_ends}
 use Rattle.flattening.proofs.walk.walk.Goals as goal
@@ -8,12 +8,12 @@ loop-k-init c = (spells_below c.requires.ends.1.spells, (λ p e. e))
 
 pub unwrap-at-requires : goal.unwrap-at-requires
 unwrap-at-requires c =
-    walk_moves c.args.items.now.after (arrows c.args.moves.now) _ _ _ c.find-move.ensures c.loop-k-test.true (c.loop-k.invariant.1 _ c.requires.ends.1)
+    walk_moves c.args.items.now.after (arrows c.args.moves.now) _ _ _ c.find_move.ensures c.loop-k-test.true (c.loop-k.invariant.1 _ c.requires.ends.1)
 
 pub loop-k-preserved : goal.loop-k-preserved
 loop-k-preserved c =
     let rest : (p : ℕ) → Ends c.args.items.now.after (arrows c.args.moves.now) c.args.from.0 c.args.first p → Ends c.args.items.now.after (arrows c.args.moves.now) c.unwrap-at.result.0 (c.loop-k.k + 1) p =
-    λ p e. walk_on c.args.items.now.after (arrows c.args.moves.now) _ _ _ c.find-move.ensures _ c.unwrap-at.ensures c.loop-k-test.true (c.loop-k.invariant.1 p e) in
+    λ p e. walk_on c.args.items.now.after (arrows c.args.moves.now) _ _ _ c.find_move.ensures _ c.unwrap-at.ensures c.loop-k-test.true (c.loop-k.invariant.1 p e) in
     (spells_below (rest _ c.requires.ends.1).spells, rest)
 
 pub returns : goal.returns

@@ -1,8 +1,7 @@
-use Rattle.std.proofs.Common.{◌≡◌, ℕ, get_or, sym, refl, ap, ◌∙◌, subst, ⊎_elim, arith}
+use Rattle.std.proofs.Common.{◌≡◌, ℕ, get_or, sym, ap, ◌∙◌, subst, ⊎_elim, arith}
 use mathlib.Core.Option.{some}
 use Rattle.std.proofs.lemmas.Bool.{cases_lt}
 use Rattle.table.specs.Sets.{In}
-use Rattle.table.specs.Lists.{StandsAt}
 use Rattle.table.specs.declared.sets.NumberSet.{NumberSet}
 use Rattle.table.specs.declared.numbers.ItemNo.{ItemNo}
 use Rattle.table.proofs.Lists.{stands_below, stands_is, stands_getD}

@@ -2,7 +2,6 @@ use Rattle.std.proofs.Common.{◌≡◌, ℕ, ◌+◌, List, sym, ap, subst, ari
 use Rattle.finding.specs.Numbered.{Arrow}
 use Rattle.theory.specs.Policies.{Finer, last}
 use Rattle.theory.proofs.Policies.{policy_laws}
-use Rattle.policies.specs.declared.last.Depth.{Depth}
 use Rattle.policies.specs.Lasts.{depth_of}
 use Rattle.policies.proofs.comparing.deeper.Goals as goal
 

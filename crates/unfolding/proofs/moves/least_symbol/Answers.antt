@@ -1,4 +1,4 @@
-use Rattle.std.proofs.Common.{◌≡◌, sym, ap, ◌∙◌, arith}
+use Rattle.std.proofs.Common.{ap, ◌∙◌, arith}
 use Rattle.table.proofs.Lists.{stands_below, stands_same}
 use Rattle.finding.specs.Numbered.{Arrow}
 use Rattle.unfolding.specs.Moves.{state_arrows}

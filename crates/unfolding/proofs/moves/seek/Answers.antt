@@ -1,4 +1,4 @@
-use Rattle.std.proofs.Common.{◌≡◌, ◌+◌, ◌-◌, ◌/◌, ◌<◌, sym, ◌∙◌, arith}
+use Rattle.std.proofs.Common.{◌+◌, ◌-◌, ◌/◌, ◌<◌, sym, ◌∙◌, arith}
 use Rattle.std.proofs.lemmas.Bool.{false≢true}
 use Rattle.table.proofs.Lists.{stands_below}
 use Rattle.unfolding.specs.Moves.{state_arrows}
@@ -14,15 +14,15 @@ loop-low-init c =
       (λ k m s h b. let l = stands_below ms k m s in omega (arith, arrows_length c.args.moves.now)),
     )
 
-pub loop-low-preserved-then-is-before : goal.loop-low-preserved-then-is-before
-loop-low-preserved-then-is-before c =
+pub loop-low-preserved-then-is_before : goal.loop-low-preserved-then-is_before
+loop-low-preserved-then-is_before c =
     let ms = c.args.moves.now in
     let i = c.loop-low.invariant in
     let j = c.loop-low.low + (c.loop-low.high - c.loop-low.low) / 2 in
     let h : j < c.loop-low.high = omega arith in (
       omega arith,
       i.1,
-      front_more (state_arrows ms) c.requires c.args.state.0 c.args.symbol j _ (read_arrow ms j _ (omega (arith, i.1))) (c.is-before.ensures.0 c.if-is-before.true),
+      front_more (state_arrows ms) c.requires c.args.state.0 c.args.symbol j _ (read_arrow ms j _ (omega (arith, i.1))) (c.is_before.ensures.0 c.if-is_before.true),
       i.3,
     )
 
@@ -36,7 +36,7 @@ loop-low-preserved c =
       omega (arith, i.1),
       i.2,
       rest_more (state_arrows ms) c.requires c.args.state.0 c.args.symbol j _ (read_arrow ms j _ (omega (arith, i.1)))
-          (λ b. false≢true (sym c.if-is-before.false ∙ c.is-before.ensures.1 b)),
+          (λ b. false≢true (sym c.if-is_before.false ∙ c.is_before.ensures.1 b)),
     )
 
 pub returns : goal.returns

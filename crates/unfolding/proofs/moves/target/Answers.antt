@@ -1,4 +1,4 @@
-use Rattle.std.proofs.Common.{◌≡◌, ◌<◌, length, ap, ◌∙◌, arith, rules}
+use Rattle.std.proofs.Common.{◌<◌, length, ap, ◌∙◌, arith, rules}
 use mathlib.Core.Option.{some}
 use Rattle.table.proofs.Lists.{stands_below, stands_same}
 use Rattle.finding.specs.Numbered.{Arrow}
@@ -13,8 +13,8 @@ bounds-moves-seek c =
     let at = move_at ms c.requires.rising c.args.state.0 c.args.symbol c.seek.result c.seek.ensures t e in
     omega (arith, stands_below ms c.seek.result _ at, arrows_length c.args.moves.now)
 
-pub offset-bounds-moves-seek : goal.offset-bounds-moves-seek
-offset-bounds-moves-seek c =
+pub offset_bounds-moves-seek : goal.offset_bounds-moves-seek
+offset_bounds-moves-seek c =
     let ms = state_arrows c.args.moves.now in
     let (t, e) = c.requires.moves in
     let at = move_at ms c.requires.rising c.args.state.0 c.args.symbol c.seek.result c.seek.ensures t e in

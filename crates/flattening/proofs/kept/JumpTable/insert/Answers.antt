@@ -8,7 +8,7 @@ returns-then-len-self c =
     record {
       lent = refl;
       limit = refl;
-      keeps = λ found k n. keeps_row found c.args.self.now c.args.jump k c.args.at n _ c.if-len-self.true refl refl c.shift-in.auto.rows c.shift-in.ensures refl;
+      keeps = λ found k n. keeps_row found c.args.self.now c.args.jump k c.args.at n _ c.if-len-self.true refl refl c.shift_in.auto.rows c.shift_in.ensures refl;
     }
 
 pub returns : goal.returns
@@ -16,6 +16,6 @@ returns c =
     record {
       lent = refl;
       limit = refl;
-      keeps = λ found k n. keeps_full found c.args.self.now c.args.jump k c.args.at n _ _ (omega arith) (omega arith) refl refl c.shift-in-2.auto.rows c.shift-in-2.ensures
+      keeps = λ found k n. keeps_full found c.args.self.now c.args.jump k c.args.at n _ _ (omega arith) (omega arith) refl refl c.shift_in-2.auto.rows c.shift_in-2.ensures
           (stands_getD c.args.self.now.rows.now _ _ (omega arith)) refl;
     }

@@ -1,4 +1,5 @@
-use Rattle.std.proofs.Common.{◌≡◌, ℕ, true, false, sym, refl, ap, ◌∙◌, subst, arith}
+use Rattle.std.proofs.Common.{◌≡◌, ℕ, Bool, true, false, ◌&&◌, sym, refl, ap, ◌∙◌, subst, arith, eqb-true, eq-eqb}
+use Rattle.std.specs.Cmp.{first_so, second_so}
 use Rattle.std.proofs.lemmas.List.{length-take}
 use Rattle.table.specs.Lists.{StandsAt}
 use Rattle.table.proofs.Lists.{stands_same, stands_below}
@@ -9,6 +10,9 @@ use Rattle.flattening.proofs.kept.JumpTable.put.Goals.{then-at-self-2+else-eq, e
 
 not_both : false ≡ true → ⊥
 not_both e = let z : ◌≡◌ {A = ℕ} 0 1 = cc in omega arith
+
+both : (a b : Bool) → a ≡ true → b ≡ true → (a && b) ≡ true
+both a b p q = ap (λ (x : Bool). x && b) p ∙ q
 
 pub returns-then-at-self : goal.returns-then-at-self
 returns-then-at-self c =
@@ -25,7 +29,7 @@ returns-then-eq c =
       lent = refl;
       limit = refl;
       keeps = λ found k. keeps_held found c.args.self.now c.args.jump k c.place-at.result
-          (subst (StandsAt _ c.place-at.result) (jump_same _ c.args.jump (h.0.0 refl) (h.1.0 refl)) (row_read c.args.self.now c.place-at.result _ c.requires c.if-at-self-2.true));
+          (subst (StandsAt _ c.place-at.result) (jump_same _ c.args.jump (eqb-true _ _ (first_so _ _ (sym h))) (eqb-true _ _ (second_so _ _ (sym h)))) (row_read c.args.self.now c.place-at.result _ c.requires c.if-at-self-2.true));
     }
 
 pub returns : goal.returns
@@ -38,7 +42,7 @@ returns c =
           (λ r s e. elim c.if-at-self-2.branch [
             | then-at-self-2+else-eq w ↦
                 let same = stands_same _ c.place-at.result _ r (row_read c.args.self.now c.place-at.result _ c.requires w.if-at-self-2.true) s ∙ e in
-                w.if-eq.ensures (λ d. not_both (d.1 (ap (λ (x : Jump). x.from.0) same))) (λ d. not_both (d.1 (ap (λ (x : Jump). x.to.0) same)))
+                not_both (w.if-eq.ensures ∙ both _ _ (eq-eqb _ _ (ap (λ (x : Jump). x.from.0) same)) (eq-eqb _ _ (ap (λ (x : Jump). x.to.0) same)))
             | else-at-self-2 w ↦
                 let b = stands_below _ c.place-at.result r s in
                 let k = keeps_bounds c.args.self.now c.requires in

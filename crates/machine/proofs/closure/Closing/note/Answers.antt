@@ -1,9 +1,9 @@
-use Rattle.std.proofs.Common.{◌≡◌, ◌<◌, length, refl, arith, rules}
+use Rattle.std.proofs.Common.{◌≡◌, length, refl, arith, rules}
 use Rattle.machine.proofs.Noting.{note_room, note_new}
 use Rattle.machine.proofs.closure.Closing.note.Goals as goal
 
-pub offset-bounds-self-at : goal.offset-bounds-self-at
-offset-bounds-self-at c =
+pub offset_bounds-self-at : goal.offset_bounds-self-at
+offset_bounds-self-at c =
     let wide : length c.args.self.now.seen ≡ 1024 = search rules in
     omega (arith, note_room c.args.self.now c.args.name c.requires.1 (omega arith) (search rules))
 
@@ -12,8 +12,8 @@ bounds-self-at c =
     let wide : length c.args.self.now.seen ≡ 1024 = search rules in
     omega (arith, note_room c.args.self.now c.args.name c.requires.1 (omega arith) (search rules))
 
-pub overflow-add-self : goal.overflow-add-self
-overflow-add-self c =
+pub overflow_add-self : goal.overflow_add-self
+overflow_add-self c =
     let wide : length c.args.self.now.seen ≡ 1024 = search rules in
     omega (arith, note_room c.args.self.now c.args.name c.requires.1 (omega arith) (search rules))
 

@@ -7,7 +7,7 @@ returns c =
     let right = c.args.right.now in
     let long : (c.args.first + length right) - c.args.first ≡ length right = omega arith in
     record {
-      after = rule_followers c.args.self.now.after right _ c.args.first _ (omega arith) long c.copy-from-slice.ensures.after;
+      after = rule_followers c.args.self.now.after right _ c.args.first _ (omega arith) long c.copy_from_slice.ensures.after;
       next = refl;
       head = refl;
       words = refl;

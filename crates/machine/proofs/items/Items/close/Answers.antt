@@ -1,12 +1,11 @@
-use Rattle.std.proofs.Common.{arith, rules}
 use Rattle.table.specs.Sets.{members}
 use Rattle.table.proofs.Rows.{members_in, in_members}
 use Rattle.theory.specs.Closure.Closed.{kernel}
 use Rattle.machine.proofs.Seeding.{closes}
 use Rattle.machine.proofs.items.Items.close.Goals as goal
 
-pub open-all-requires : goal.open-all-requires
-open-all-requires c =
+pub open_all-requires : goal.open_all-requires
+open_all-requires c =
     let (g, of, k) = c.requires in
     let K = members c.args.kernel.now.words in
     record { named = (g, K, of, c.seed-at.ensures.within g K of (λ j h. kernel (in_members _ c.args.kernel.now.row j h) (k j h))); notes = c.seed-at.ensures.notes }
@@ -15,6 +14,6 @@ pub returns : goal.returns
 returns c g of k =
     let K = members c.args.kernel.now.words in
     let w = c.seed-at.ensures.within g K of (λ j h. kernel (in_members _ c.args.kernel.now.row j h) (k j h)) in
-    let (now, all) = c.open-all.ensures.opened g K of w in
+    let (now, all) = c.open_all.ensures.opened g K of w in
     closes g c.args.self.now of K _ now all
-    (λ j m. c.open-all.ensures.still j (c.seed-at.ensures.kernel j (members_in _ j m))) c.open-all.new.at.set.row
+    (λ j m. c.open_all.ensures.still j (c.seed-at.ensures.kernel j (members_in _ j m))) c.open_all.new.at.set.row

@@ -1,4 +1,4 @@
-use Rattle.std.proofs.Common.{◌≡◌, get_or, subst, arith}
+use Rattle.std.proofs.Common.{◌≡◌, subst, arith}
 use mathlib.Core.List.Memᴰ
 use Rattle.machine.specs.Closing.{OpenedTo}
 use Rattle.machine.proofs.Opening.{grown_none, grown_more}
@@ -9,8 +9,8 @@ pub loop-i-init : goal.loop-i-init
 loop-i-init c =
     (grown_none c.args.at.now c.requires.notes, omega arith, (λ g K of w. (w, (λ n k m f. absurd (Memᴰ.not-nil m)))))
 
-pub open-name-requires : goal.open-name-requires
-open-name-requires c =
+pub open_name-requires : goal.open_name-requires
+open_name-requires c =
     let i = c.loop-i.invariant in
     let notes = i.0.notes in
     let few = notes.few in let long = notes.long in

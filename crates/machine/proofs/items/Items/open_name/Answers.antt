@@ -1,4 +1,4 @@
-use Rattle.std.proofs.Common.{◌≡◌, ◌+◌, ◌<◌, subst, arith}
+use Rattle.std.proofs.Common.{◌+◌, subst, arith}
 use Rattle.machine.specs.Closing.{ToOpen}
 use Rattle.machine.proofs.Opening.{grown_none, grown_more, open_start, open_closed, open_more, open_end, open_bounds}
 use Rattle.machine.proofs.items.Items.open_name.Goals as goal
@@ -7,17 +7,17 @@ pub loop-k-init : goal.loop-k-init
 loop-k-init c =
     (grown_none c.args.at.now c.requires.notes, (λ g of n. open_start g c.args.self.now c.args.name c.args.at.now.set.words of n), (λ g K of n a w. w))
 
-pub take-item-requires : goal.take-item-requires
-take-item-requires c =
+pub take_item-requires : goal.take_item-requires
+take_item-requires c =
     let b = open_bounds c.args.self.now c.args.name c.loop-k.k _ c.loop-k-test.true c.requires.named c.loop-k.invariant.1 in
     (b.0, b.2, c.loop-k.invariant.0.notes)
 
-pub overflow-cast-k : goal.overflow-cast-k
-overflow-cast-k c =
+pub overflow_cast-k : goal.overflow_cast-k
+overflow_cast-k c =
     omega (arith, (open_bounds c.args.self.now c.args.name c.loop-k.k _ c.loop-k-test.true c.requires.named c.loop-k.invariant.1).0)
 
-pub offset-bounds-self-k : goal.offset-bounds-self-k
-offset-bounds-self-k c =
+pub offset_bounds-self-k : goal.offset_bounds-self-k
+offset_bounds-self-k c =
     omega (arith, (open_bounds c.args.self.now c.args.name c.loop-k.k _ c.loop-k-test.true c.requires.named c.loop-k.invariant.1).0)
 
 pub bounds-self-k : goal.bounds-self-k
@@ -29,7 +29,7 @@ loop-k-smaller c = (open_bounds c.args.self.now c.args.name c.loop-k.k _ c.loop-
 pub loop-k-preserved : goal.loop-k-preserved
 loop-k-preserved c =
     let i = c.loop-k.invariant in
-    let e = c.take-item.ensures in (
+    let e = c.take_item.ensures in (
       grown_more _ _ _ i.0 e.grown,
       (λ g of n. open_more g c.args.self.now _ c.loop-k.k _ c.loop-k-test.true of (i.1 g of n) _ e.grown.still e.here),
       (λ g K of n a w. e.within g K of (open_closed g c.args.self.now _ c.loop-k.k _ c.loop-k-test.true of (i.1 g of n) K a) (i.2 g K of n a w)),

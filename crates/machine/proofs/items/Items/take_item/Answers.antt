@@ -1,4 +1,4 @@
-use Rattle.std.proofs.Common.{◌≡◌, sym, refl, subst, inl, inr, arith}
+use Rattle.std.proofs.Common.{sym, subst, inl, inr, arith}
 use Rattle.table.specs.Sets.{In}
 use Rattle.table.specs.declared.sets.NumberSet.{NumberSet}
 use Rattle.table.specs.declared.numbers.ItemNo.{ItemNo}

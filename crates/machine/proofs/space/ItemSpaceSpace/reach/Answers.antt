@@ -4,8 +4,8 @@ use Rattle.machine.proofs.space.ItemSpaceSpace.reach.Goals as goal
 
 pub close-requires : goal.close-requires
 close-requires c =
-    let (es, k, ready, at) = c.requires.0 in
-    let goes = c.requires.1.1 in (
+    let (es, k, ready, at) = c.requires.held in
+    let goes = c.requires.moves.1 in (
       ready.grammar,
       ready.of,
       kernel_of c.args.self.now.table.now c.args.self.now.items es k c.args.e ready at c.args.x goes.0 goes.1

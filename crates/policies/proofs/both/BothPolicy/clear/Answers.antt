@@ -1,4 +1,3 @@
-use Rattle.std.proofs.Common.{◌≡◌, List, [], ◌∷◌, take, sym, ap, ◌∙◌, subst}
 use Rattle.policies.specs.Pairing.{paired_at_first, pairs_at_first}
 use Rattle.policies.proofs.both.BothPolicy.clear.Goals as goal
 

@@ -4,8 +4,8 @@ use Rattle.policy.proofs.Tracking.{step}
 use Rattle.policies.specs.Pairing.{Below, past, at_left, at_right, left_refused, right_refused, fitting}
 use Rattle.policies.proofs.both.BothPolicy.fits.Goals as goal
 
-pub returns-in-err-pair : goal.returns-in-err-pair
-returns-in-err-pair g c =
+pub returns-in_err-pair : goal.returns-in_err-pair
+returns-in_err-pair g c =
     let s = c.args.self.now in
     let m = g.P.Policy.meaning (g.P.Policy.kind s.first) in
     let n = g.Q.Policy.meaning (g.Q.Policy.kind s.second) in
@@ -15,10 +15,10 @@ returns-in-err-pair g c =
     record { room = g.Q.Policy.room (g.Q.Policy.kind s.second); onward = pushed n c.args.state.0 c.args.symbol c.args.reached.0; held = g.Q.Policy.held s.second; distinct = g.met.Q.Policy.distinct s.second c.requires.1 } in
     let rs = take s.pairs.len s.pairs.rows in
     let i = c.args.class.0 in
-    rw c.from-residual.ensures (_, past P Q rs c.requires.2 i c.in-err-pair.ensures)
+    rw c.from_residual.ensures (_, past P Q rs c.requires.2 i c.in_err-pair.ensures)
 
-pub returns-in-err-first : goal.returns-in-err-first
-returns-in-err-first g c =
+pub returns-in_err-first : goal.returns-in_err-first
+returns-in_err-first g c =
     let s = c.args.self.now in
     let m = g.P.Policy.meaning (g.P.Policy.kind s.first) in
     let n = g.Q.Policy.meaning (g.Q.Policy.kind s.second) in
@@ -28,10 +28,10 @@ returns-in-err-first g c =
     record { room = g.Q.Policy.room (g.Q.Policy.kind s.second); onward = pushed n c.args.state.0 c.args.symbol c.args.reached.0; held = g.Q.Policy.held s.second; distinct = g.met.Q.Policy.distinct s.second c.requires.1 } in
     let rs = take s.pairs.len s.pairs.rows in
     let i = c.args.class.0 in
-    rw c.from-residual-in-err-first.ensures (_, left_refused P Q rs c.requires.2 i c.in-ok-pair.pair c.in-ok-pair.ensures c.in-err-first.ensures.1)
+    rw c.from_residual-in_err-first.ensures (_, left_refused P Q rs c.requires.2 i c.in_ok-pair.pair c.in_ok-pair.ensures c.in_err-first.ensures.1)
 
-pub returns-in-err-second : goal.returns-in-err-second
-returns-in-err-second g c =
+pub returns-in_err-second : goal.returns-in_err-second
+returns-in_err-second g c =
     let s = c.args.self.now in
     let m = g.P.Policy.meaning (g.P.Policy.kind s.first) in
     let n = g.Q.Policy.meaning (g.Q.Policy.kind s.second) in
@@ -41,7 +41,7 @@ returns-in-err-second g c =
     record { room = g.Q.Policy.room (g.Q.Policy.kind s.second); onward = pushed n c.args.state.0 c.args.symbol c.args.reached.0; held = g.Q.Policy.held s.second; distinct = g.met.Q.Policy.distinct s.second c.requires.1 } in
     let rs = take s.pairs.len s.pairs.rows in
     let i = c.args.class.0 in
-    rw c.from-residual-in-err-second.ensures (_, right_refused P Q rs c.requires.2 i c.in-ok-pair.pair c.in-ok-pair.ensures c.in-err-second.ensures.1)
+    rw c.from_residual-in_err-second.ensures (_, right_refused P Q rs c.requires.2 i c.in_ok-pair.pair c.in_ok-pair.ensures c.in_err-second.ensures.1)
 
 pub returns : goal.returns
 returns g c =
@@ -54,8 +54,8 @@ returns g c =
     record { room = g.Q.Policy.room (g.Q.Policy.kind s.second); onward = pushed n c.args.state.0 c.args.symbol c.args.reached.0; held = g.Q.Policy.held s.second; distinct = g.met.Q.Policy.distinct s.second c.requires.1 } in
     let rs = take s.pairs.len s.pairs.rows in
     let i = c.args.class.0 in
-    let r = c.in-ok-pair.pair in
-    let at = c.in-ok-pair.ensures in
-    let left = step P.room P.held P.onward r.first.0 P.distinct (at_left P Q rs c.requires.2 i r at) c.in-ok-first.first c.in-ok-first.ensures.1 in
-    let right = step Q.room Q.held Q.onward r.second.0 Q.distinct (at_right P Q rs c.requires.2 i r at) c.in-ok-second.second c.in-ok-second.ensures.1 in
-    fitting P Q rs c.requires.2 i r at c.in-ok-first.first c.in-ok-second.second left right c.look.ensures.1
+    let r = c.in_ok-pair.pair in
+    let at = c.in_ok-pair.ensures in
+    let left = step P.room P.held P.onward r.first.0 P.distinct (at_left P Q rs c.requires.2 i r at) c.in_ok-first.first c.in_ok-first.ensures.1 in
+    let right = step Q.room Q.held Q.onward r.second.0 Q.distinct (at_right P Q rs c.requires.2 i r at) c.in_ok-second.second c.in_ok-second.ensures.1 in
+    fitting P Q rs c.requires.2 i r at c.in_ok-first.first c.in_ok-second.second left right c.look.ensures.1

@@ -1,4 +1,4 @@
-use Rattle.std.proofs.Common.{◌≡◌, List, take, None, sym, refl, ap, subst, arith}
+use Rattle.std.proofs.Common.{◌≡◌, List, take, None, sym, refl, subst, arith}
 use Rattle.theory.specs.Policies.{Class, both}
 use Rattle.policy.specs.Classes.{pushed, Taken}
 use Rattle.policy.proofs.Placing.{size}
@@ -7,8 +7,8 @@ use Rattle.policies.specs.Pairs.{pair_classes, pair_room, Paired}
 use Rattle.policies.specs.Pairing.{Below, pairs_length, past, at_left, at_right, left_refused, fresh, right_fits, taken, paired}
 use Rattle.policies.proofs.both.BothPolicy.next.Goals as goal
 
-pub returns-in-err-number : goal.returns-in-err-number
-returns-in-err-number g c = rw c.from-residual.ensures (record { kind = refl; ready = c.requires; taken = none_taken c.in-err-number.ensures.1 })
+pub returns-in_err-number : goal.returns-in_err-number
+returns-in_err-number g c = rw c.from_residual.ensures (record { kind = refl; ready = c.requires; taken = none_taken c.in_err-number.ensures.1 })
 
 pub returns-then-number-self : goal.returns-then-number-self
 returns-then-number-self g c =
@@ -17,11 +17,11 @@ returns-then-number-self g c =
     record {
       kind = refl;
       ready = c.requires;
-      taken = old_taken c.in-ok-number.ensures.1 (omega (arith, n, size s.pairs.rows s.pairs.len s.pairs.fixed, c.if-number-self.true));
+      taken = old_taken c.in_ok-number.ensures.1 (omega (arith, n, size s.pairs.rows s.pairs.len s.pairs.fixed, c.if-number-self.true));
     }
 
-pub returns-in-err-pair : goal.returns-in-err-pair
-returns-in-err-pair g c =
+pub returns-in_err-pair : goal.returns-in_err-pair
+returns-in_err-pair g c =
     let s = c.args.self.now in
     let m = g.P.Policy.meaning (g.P.Policy.kind s.first) in
     let n = g.Q.Policy.meaning (g.Q.Policy.kind s.second) in
@@ -31,11 +31,11 @@ returns-in-err-pair g c =
     record { room = g.Q.Policy.room (g.Q.Policy.kind s.second); onward = pushed n c.args.state.0 c.args.symbol c.args.reached.0; held = g.Q.Policy.held s.second; distinct = g.met.Q.Policy.distinct s.second c.requires.1 } in
     let rs = take s.pairs.len s.pairs.rows in
     let i = c.args.class.0 in
-    rw c.from-residual-in-err-pair.ensures (record { kind = refl; ready = c.requires; taken = past P Q rs c.requires.2 i c.in-err-pair.ensures })
+    rw c.from_residual-in_err-pair.ensures (record { kind = refl; ready = c.requires; taken = past P Q rs c.requires.2 i c.in_err-pair.ensures })
 
 -- the first half took nothing
-pub returns-in-err-first : goal.returns-in-err-first
-returns-in-err-first g c =
+pub returns-in_err-first : goal.returns-in_err-first
+returns-in_err-first g c =
     let s = c.args.self.now in
     let m = g.P.Policy.meaning (g.P.Policy.kind s.first) in
     let n = g.Q.Policy.meaning (g.Q.Policy.kind s.second) in
@@ -45,20 +45,20 @@ returns-in-err-first g c =
     record { room = g.Q.Policy.room (g.Q.Policy.kind s.second); onward = pushed n c.args.state.0 c.args.symbol c.args.reached.0; held = g.Q.Policy.held s.second; distinct = g.met.Q.Policy.distinct s.second c.requires.1 } in
     let rs = take s.pairs.len s.pairs.rows in
     let i = c.args.class.0 in
-    let r = c.in-ok-pair.pair in
-    let at = c.in-ok-pair.ensures in
-    let same : g.P.Policy.held c.next.new.self ≡ P.held = (refused P.room P.held P.onward r.first.0 P.distinct (at_left P Q rs c.requires.2 i r at) c.in-err-first.ensures.taken).2 in
-    rw c.from-residual-in-err-first.ensures
+    let r = c.in_ok-pair.pair in
+    let at = c.in_ok-pair.ensures in
+    let same : g.P.Policy.held c.next.new.self ≡ P.held = (refused P.room P.held P.onward r.first.0 P.distinct (at_left P Q rs c.requires.2 i r at) c.in_err-first.ensures.taken).2 in
+    rw c.from_residual-in_err-first.ensures
     (record {
       kind = λ j. (c.next.ensures.kind j, g.Q.Policy.kind s.second);
       ready = (c.next.ensures.ready, c.requires.1, subst (λ (l : List Class). Paired l Q.held rs) (sym same) c.requires.2);
       taken = subst (λ (l : List Class). Taken (pair_room P.room Q.room) (pair_classes P.held Q.held rs) (pushed (both m n) c.args.state.0 c.args.symbol c.args.reached.0) i None (pair_classes l Q.held rs)) (sym same)
-          (left_refused P Q rs c.requires.2 i r at c.in-err-first.ensures.taken);
+          (left_refused P Q rs c.requires.2 i r at c.in_err-first.ensures.taken);
     })
 
 -- the second half does not refuse where the pair fits
-pub returns-in-err-second : goal.returns-in-err-second
-returns-in-err-second g c =
+pub returns-in_err-second : goal.returns-in_err-second
+returns-in_err-second g c =
     let s = c.args.self.now in
     let m = g.P.Policy.meaning (g.P.Policy.kind s.first) in
     let n = g.Q.Policy.meaning (g.Q.Policy.kind s.second) in
@@ -68,10 +68,10 @@ returns-in-err-second g c =
     record { room = g.Q.Policy.room (g.Q.Policy.kind s.second); onward = pushed n c.args.state.0 c.args.symbol c.args.reached.0; held = g.Q.Policy.held s.second; distinct = g.met.Q.Policy.distinct s.second c.requires.1 } in
     let rs = take s.pairs.len s.pairs.rows in
     let i = c.args.class.0 in
-    let r = c.in-ok-pair.pair in
-    let at = c.in-ok-pair.ensures in
-    let new = fresh P Q rs c.requires.2 i r at c.in-ok-number.ensures.1 (omega (arith, pairs_length P.held Q.held rs, size s.pairs.rows s.pairs.len s.pairs.fixed, c.if-number-self.false)) in
-    absurd (right_fits P Q rs c.requires.2 i r at new c.in-err-second.ensures.taken)
+    let r = c.in_ok-pair.pair in
+    let at = c.in_ok-pair.ensures in
+    let new = fresh P Q rs c.requires.2 i r at c.in_ok-number.ensures.1 (omega (arith, pairs_length P.held Q.held rs, size s.pairs.rows s.pairs.len s.pairs.fixed, c.if-number-self.false)) in
+    absurd (right_fits P Q rs c.requires.2 i r at new c.in_err-second.ensures.taken)
 
 pub returns : goal.returns
 returns g c =
@@ -84,13 +84,13 @@ returns g c =
     record { room = g.Q.Policy.room (g.Q.Policy.kind s.second); onward = pushed n c.args.state.0 c.args.symbol c.args.reached.0; held = g.Q.Policy.held s.second; distinct = g.met.Q.Policy.distinct s.second c.requires.1 } in
     let rs = take s.pairs.len s.pairs.rows in
     let i = c.args.class.0 in
-    let r = c.in-ok-pair.pair in
-    let at = c.in-ok-pair.ensures in
-    let new = fresh P Q rs c.requires.2 i r at c.in-ok-number.ensures.1 (omega (arith, pairs_length P.held Q.held rs, size s.pairs.rows s.pairs.len s.pairs.fixed, c.if-number-self.false)) in
-    let left = step P.room P.held P.onward r.first.0 P.distinct (at_left P Q rs c.requires.2 i r at) c.in-ok-first.first c.in-ok-first.ensures.taken in
-    let right = step Q.room Q.held Q.onward r.second.0 Q.distinct (at_right P Q rs c.requires.2 i r at) c.in-ok-second.second c.in-ok-second.ensures.taken in
+    let r = c.in_ok-pair.pair in
+    let at = c.in_ok-pair.ensures in
+    let new = fresh P Q rs c.requires.2 i r at c.in_ok-number.ensures.1 (omega (arith, pairs_length P.held Q.held rs, size s.pairs.rows s.pairs.len s.pairs.fixed, c.if-number-self.false)) in
+    let left = step P.room P.held P.onward r.first.0 P.distinct (at_left P Q rs c.requires.2 i r at) c.in_ok-first.first c.in_ok-first.ensures.taken in
+    let right = step Q.room Q.held Q.onward r.second.0 Q.distinct (at_right P Q rs c.requires.2 i r at) c.in_ok-second.second c.in_ok-second.ensures.taken in
     record {
       kind = λ j. (c.next.ensures.kind j, c.next-2.ensures.kind j);
-      ready = (c.next.ensures.ready, c.next-2.ensures.ready, paired P Q rs c.requires.2 i r at c.in-ok-first.first c.in-ok-second.second left right new c.place.ensures);
-      taken = taken P Q rs c.requires.2 i r at c.in-ok-first.first c.in-ok-second.second left right new c.place.ensures;
+      ready = (c.next.ensures.ready, c.next-2.ensures.ready, paired P Q rs c.requires.2 i r at c.in_ok-first.first c.in_ok-second.second left right new c.place.ensures);
+      taken = taken P Q rs c.requires.2 i r at c.in_ok-first.first c.in_ok-second.second left right new c.place.ensures;
     }

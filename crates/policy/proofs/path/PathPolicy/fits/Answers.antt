@@ -20,4 +20,4 @@ returns c =
     let s = c.args.self.now.links in
     let n = size s.rows s.len s.fixed in
     let (ls, placed) = c.look.ensures in
-    (_, placed_taken (take s.len s.rows) c.requires c.args.class.0 c.args.reached.0 (omega (arith, c.if-class-self.false)) c.in-default.ensures placed)
+    (_, placed_taken (take s.len s.rows) c.requires c.args.class.0 c.args.reached.0 (omega (arith, c.if-class-self.false)) c.in_default.ensures placed)

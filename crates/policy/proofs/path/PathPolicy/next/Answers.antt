@@ -29,6 +29,6 @@ returns c =
     let n = size s.rows s.len s.fixed in
     record {
       kind = refl;
-      ready = placed_chained (take s.len s.rows) c.requires c.args.class.0 c.args.reached.0 (omega (arith, c.if-class-self.false)) c.in-default.ensures c.place.ensures;
-      taken = placed_taken (take s.len s.rows) c.requires c.args.class.0 c.args.reached.0 (omega (arith, c.if-class-self.false)) c.in-default.ensures c.place.ensures;
+      ready = placed_chained (take s.len s.rows) c.requires c.args.class.0 c.args.reached.0 (omega (arith, c.if-class-self.false)) c.in_default.ensures c.place.ensures;
+      taken = placed_taken (take s.len s.rows) c.requires c.args.class.0 c.args.reached.0 (omega (arith, c.if-class-self.false)) c.in_default.ensures c.place.ensures;
     }
