@@ -1,6 +1,5 @@
 -- From what each layer answers to what compile answers.
-use Rattle.std.proofs.Common.{◌≡◌, ℕ, ◌+◌, ◌-◌, ◌<◌, ◌≤◌, min, ◌↔◌, List, [], ◌∷◌, ◌++◌, map, length, take, drop, Ok, Err, sym, refl, ap, ◌∙◌, subst, arith, length-take-le}
-use mathlib.Core.List.{Memᴰ}
+use Rattle.std.proofs.Common.{◌≡◌, ℕ, ◌+◌, ◌-◌, ◌<◌, ◌≤◌, min, List, ◌++◌, map, length, take, drop, Ok, Err, sym, ap, ◌∙◌, subst, arith, length-take-le}
 use native.Mathlib.Nat.{sub-zero}
 use lib.ListN.{length-map}
 use Rattle.std.proofs.lemmas.List.{length-take}
@@ -10,25 +9,22 @@ use Rattle.book.specs.Grammar.{Grammar, symbols}
 use Rattle.book.specs.Tables.{Holds}
 use Rattle.book.proofs.Held.{Known}
 use Rattle.book.proofs.Unique.{holds_one}
-use Rattle.table.specs.Lists.{InOrder}
 use Rattle.table.specs.declared.numbers.NodeNo.{NodeNo}
 use Rattle.table.specs.declared.numbers.StateNo.{StateNo}
 use Rattle.table.specs.declared.numbers.ItemNo.{ItemNo}
 use Rattle.table.specs.declared.sets.NumberSet.{NumberSet}
 use Rattle.finding.specs.declared.moves.Move.{Move}
 use Rattle.finding.specs.declared.moves.Count.{Count}
-use Rattle.finding.specs.Numbered.{Arrow, upto}
+use Rattle.finding.specs.Numbered.{Arrow}
 use Rattle.finding.proofs.Laws.{numbered_laws, upto_ascending, upto_below}
-use Rattle.theory.specs.Machine.{Machine}
 use Rattle.theory.specs.Policies.{Class, Meaning}
 use Rattle.theory.specs.Unfolding.{Node as MeantNode, Unfolded, FinalNode}
-use Rattle.theory.specs.Flattening.{Acceptor, file_length, word_moves, Jump as JumpFrom, JumpLess, FlattenedFrom, Flattened}
+use Rattle.theory.specs.Flattening.{Acceptor, file_length, word_moves, FlattenedFrom, Flattened}
 use Rattle.theory.proofs.Items.{fit_sound}
 use Rattle.theory.proofs.Numbering.{moves_rise}
 use Rattle.machine.specs.declared.items.Items.{Items}
 use Rattle.machine.specs.declared.machine.MachineSummary.{MachineSummary}
 use Rattle.machine.specs.Index.{Indexed}
-use Rattle.machine.specs.Closing.{ItemsOf}
 use Rattle.machine.specs.Machines.{sets, arrows as state_table, MachineIn}
 use Rattle.policy.specs.Classes.{Room}
 use Rattle.unfolding.specs.declared.node.Node.{Node}

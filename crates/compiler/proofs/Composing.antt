@@ -1,15 +1,13 @@
 -- The acceptor of a machine, an unfolding, a final node and jumps.
-use Rattle.std.proofs.Common.{◌≡◌, ℕ, ◌<◌, ◌↔◌, List, [], ◌∷◌, length, refl}
+use Rattle.std.proofs.Common.{ℕ, ◌↔◌, List, length, refl}
 use mathlib.Core.List.{Memᴰ}
 use Rattle.book.specs.Grammar.{Grammar, symbols}
 use Rattle.table.specs.Lists.{InOrder}
 use Rattle.finding.specs.Numbered.{Arrow}
 use Rattle.theory.specs.Items.{Sound}
-use Rattle.theory.specs.Machine.{Machine}
 use Rattle.theory.specs.Policies.{Meaning}
 use Rattle.theory.specs.Unfolding.{Node, Unfolded, FinalNode}
 use Rattle.theory.specs.Flattening.{Acceptor, word_moves, Jump, JumpLess, FlattenedFrom, Flattened}
-use Rattle.theory.specs.Laws.{Laws}
 use Rattle.theory.proofs.Arcs.{word_moves_are, word_moves_rise}
 use Rattle.theory.proofs.Numbering.{moves_rise}
 use Rattle.theory.proofs.Theorems.{all_laws}

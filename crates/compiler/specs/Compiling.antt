@@ -1,5 +1,5 @@
 -- What compile answers and leaves.
-use Rattle.std.specs.Prelude.{◌≡◌, ℕ, ◌<◌, ◌≤◌, min, List, [], ◌∷◌, ◌++◌, length, drop, Ok, Err, Result}
+use Rattle.std.specs.Prelude.{◌≡◌, ℕ, ◌<◌, ◌≤◌, min, List, ◌++◌, length, drop, Ok, Err, Result}
 use Rattle.book.specs.declared.fault.Refusal.{Refusal}
 use Rattle.book.specs.Grammar.{Grammar, symbols}
 use Rattle.book.specs.Refusals.{refusal as book_refusal}

@@ -1,7 +1,7 @@
 -- The moves on words, one move after the other, and their bytes.
-use Rattle.std.proofs.Common.{◌≡◌, ℕ, ◌+◌, ◌*◌, ◌<◌, ◌≤◌, Bool, true, false, ltb, List, [], ◌∷◌, ◌++◌, map, length, get_or, take, sym, refl, ap, ◌∙◌, subst, ⊎_elim, append-nil, arith}
+use Rattle.std.proofs.Common.{◌≡◌, ℕ, ◌+◌, ◌*◌, ◌<◌, ◌≤◌, Bool, true, false, ltb, List, [], ◌∷◌, ◌++◌, length, get_or, take, sym, refl, ap, ◌∙◌, subst, ⊎_elim, append-nil, arith}
 use Rattle.std.specs.List.{flat_map}
-use Rattle.std.proofs.lemmas.List.{length_push, length-map, length-take-le, take_all, map_more}
+use Rattle.std.proofs.lemmas.List.{length-map, map_more}
 use Rattle.std.proofs.lemmas.Bool.{lt-ltb, le-ltb, cases_Bool}
 use Rattle.book.specs.Files.{bytes_of}
 use Rattle.book.proofs.Numbers.{length_bytes}
@@ -14,7 +14,7 @@ use Rattle.theory.specs.Flattening.{word_moves}
 use Rattle.theory.proofs.Lists.{keep_take, keep_leave, keep_length}
 use Rattle.pga.specs.Files.{arc_numbers, jump_numbers}
 use Rattle.flattening.specs.declared.jump.Jump.{Jump}
-use Rattle.pga.specs.Writing.{Put, node, arrows, pairs}
+use Rattle.pga.specs.Writing.{Put, node, arrows}
 use Rattle.pga.proofs.Lists.{joined_append}
 use Rattle.pga.proofs.Putting.{put_then}
 

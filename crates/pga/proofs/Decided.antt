@@ -1,15 +1,15 @@
 -- AllByRecursion checks of a file pass exactly where it is framed and the acceptor that is read off it fits.
-use Rattle.std.proofs.Common.{◌≡◌, ℕ, zero, suc, ◌+◌, ◌-◌, ◌*◌, ◌<◌, ◌≤◌, ◌⊎◌, List, [], ◌∷◌, ◌++◌, length, sym, refl, ap, ◌∙◌, subst, inl, inr, ⊎_elim, arith}
+use Rattle.std.proofs.Common.{◌≡◌, ℕ, zero, suc, ◌+◌, ◌-◌, ◌*◌, ◌<◌, ◌≤◌, ◌⊎◌, List, [], ◌∷◌, ◌++◌, length, sym, refl, ◌∙◌, subst, inl, inr, ⊎_elim, arith}
 use Rattle.std.specs.List.{AllByRecursion}
 use Rattle.std.proofs.lemmas.List.FromFn.{length-map-range_with_len}
 use Rattle.std.proofs.ByRecursion.{All-append}
 use Rattle.std.proofs.lemmas.Bool.{cases_lt}
 use Rattle.finding.specs.Numbered.{Arrow}
 use Rattle.finding.specs.Laws.{Rises}
-use Rattle.theory.specs.Flattening.{Acceptor, JumpLess}
+use Rattle.theory.specs.Flattening.{JumpLess}
 use Rattle.pga.specs.Files.{ArcFits, JumpFits, Fit}
 use Rattle.pga.specs.Reading.{number_at, decoded}
-use Rattle.pga.specs.Flaws.{Check, ends, RowRises, Passes, row, rows, header_checks, arc_checks, jump_checks, file_checks}
+use Rattle.pga.specs.Flaws.{ends, RowRises, Passes, row, rows, header_checks, arc_checks, jump_checks, file_checks}
 use Rattle.pga.proofs.Judging.{all_left, all_right}
 use Rattle.pga.proofs.Counted.{all_made, each_made, order_next, made_in_order}
 use Rattle.pga.proofs.Decoding.{Framed, arc_of, jump_of}

@@ -1,5 +1,5 @@
 -- A file and the acceptor that is read off its bytes.
-use Rattle.std.proofs.Common.{◌≡◌, ℕ, zero, suc, ◌+◌, ◌*◌, ◌/◌, ◌%◌, ◌<◌, ◌≤◌, List, [], ◌∷◌, ◌++◌, map, length, get_or, take, drop, codes, sym, refl, ap, ◌∙◌, subst, append_assoc, append-nil, add-zero, arith}
+use Rattle.std.proofs.Common.{◌≡◌, ℕ, zero, suc, ◌+◌, ◌*◌, ◌/◌, ◌%◌, ◌<◌, ◌≤◌, List, [], ◌∷◌, ◌++◌, length, get_or, take, drop, codes, sym, refl, ap, ◌∙◌, subst, append_assoc, append-nil, add-zero, arith}
 use Rattle.std.specs.List.{flat_map, AllByRecursion, range_with_len}
 use Rattle.std.proofs.lemmas.List.{take-append-drop, drop_more, drop_all}
 use Rattle.std.proofs.ByRecursion.{All-get_or}
@@ -8,7 +8,7 @@ use Rattle.book.specs.Files.{bytes_of}
 use Rattle.book.specs.Reading.{numbers}
 use Rattle.book.proofs.Numbers.{numbers_bytes}
 use Rattle.finding.specs.Numbered.{Arrow}
-use Rattle.theory.specs.Flattening.{Acceptor, file_length}
+use Rattle.theory.specs.Flattening.{Acceptor}
 use Rattle.pga.specs.Files.{arc_numbers, jump_numbers, header_numbers, file_numbers, file_of}
 use Rattle.pga.specs.Reading.{number_at, arc_in, jump_in, decoded}
 use Rattle.pga.proofs.Lists.{joined_append, joined_map}

@@ -1,5 +1,5 @@
 -- The sizes of a checked file, and its text.
-use Rattle.std.proofs.Common.{◌≡◌, ℕ, ◌+◌, ◌*◌, ◌<◌, ◌≤◌, List, [], ◌∷◌, ◌++◌, length, Ok, sym, refl, ap, ◌∙◌, subst, arith}
+use Rattle.std.proofs.Common.{◌≡◌, ℕ, ◌+◌, ◌*◌, ◌<◌, ◌≤◌, List, length, Ok, sym, ap, ◌∙◌, subst, arith}
 use Rattle.std.specs.List.{flat_map}
 use Rattle.std.proofs.lemmas.List.FromFn.{length-map-range_with_len}
 use Rattle.pga.specs.declared.check.Header.{Header}
@@ -8,7 +8,7 @@ use Rattle.pga.specs.Files.{IsFile}
 use Rattle.pga.specs.Refusals.{told}
 use Rattle.pga.specs.Reading.{number_at, arcs_from, jumps_from, decoded}
 use Rattle.pga.specs.Writing.{Put}
-use Rattle.pga.specs.Checks.{header, Checked}
+use Rattle.pga.specs.Checks.{Checked}
 use Rattle.pga.specs.Listing.{counts_line, arc_line, jump_line, lines, TextWritten, ListRefused}
 use Rattle.pga.specs.Listing.ListRefused.{short}
 use Rattle.pga.proofs.Putting.{put_then}

@@ -1,12 +1,12 @@
 -- The parts of a file, checked one after the other: header, arcs, jumps, length.
-use Rattle.std.proofs.Common.{◌≡◌, ℕ, ◌+◌, ◌*◌, ◌<◌, ◌≤◌, List, [], ◌∷◌, ◌++◌, length, sym, refl, ap, ◌∙◌, subst, arith}
+use Rattle.std.proofs.Common.{◌≡◌, ℕ, ◌+◌, ◌*◌, ◌<◌, ◌≤◌, List, [], ◌∷◌, length, subst, arith}
 use Rattle.std.specs.List.{AllByRecursion}
 use Rattle.std.proofs.ByRecursion.{All-append}
 use Rattle.book.specs.declared.fault.Refusal.{Refusal}
 use Rattle.pga.specs.declared.check.Header.{Header}
 use Rattle.pga.specs.Reading.{number_at}
 use Rattle.pga.specs.Refusals.{told}
-use Rattle.pga.specs.Flaws.{Check, ends, Passes, Fault, First, rows, header_checks, arc_checks, jump_checks, file_checks, FileFault}
+use Rattle.pga.specs.Flaws.{Check, ends, Passes, First, rows, header_checks, arc_checks, jump_checks, file_checks, FileFault}
 use Rattle.pga.specs.Flaws.Fault.{wrong}
 use Rattle.pga.specs.Flaws.First.{here}
 use Rattle.pga.specs.Checks.{Headed}

@@ -1,14 +1,14 @@
 -- Bytes are the file of one acceptor, or have one first fault, and never both.
-use Rattle.std.proofs.Common.{◌≡◌, ℕ, ◌<◌, ◌≤◌, List, [], ◌∷◌, length, Ok, Err, Result, sym, refl, ap, ◌∙◌, subst, arith}
+use Rattle.std.proofs.Common.{◌≡◌, ℕ, ◌<◌, List, Ok, Err, Result, sym, refl, ◌∙◌, subst, arith}
 use Rattle.std.specs.List.{AllByRecursion}
 use Rattle.std.proofs.lemmas.List.FromFn.{length-map-range_with_len}
 use Rattle.book.specs.declared.fault.Refusal.{Refusal}
 use Rattle.theory.specs.Flattening.{Acceptor}
 use Rattle.pga.specs.declared.fault.AcceptorFault.{AcceptorFault}
 use Rattle.pga.specs.declared.check.Header.{Header}
-use Rattle.pga.specs.Files.{file_of, Fit, IsFile}
+use Rattle.pga.specs.Files.{Fit, IsFile}
 use Rattle.pga.specs.Reading.{number_at, decoded}
-use Rattle.pga.specs.Flaws.{Check, Passes, Fault, First, file_checks, FileFault}
+use Rattle.pga.specs.Flaws.{Check, Passes, Fault, First, file_checks}
 use Rattle.pga.specs.Flaws.Fault.{early, wrong}
 use Rattle.pga.specs.Flaws.First.{here, later}
 use Rattle.pga.specs.Checks.{Headed, WholeJudged, header, Checked, OnlyChecked}

@@ -1,10 +1,10 @@
 -- The parts of a file, put one after the other, are the file.
-use Rattle.std.proofs.Common.{◌≡◌, ℕ, ◌+◌, ◌*◌, ◌<◌, ◌≤◌, List, [], ◌∷◌, ◌++◌, length, take, drop, codes, sym, refl, ap, ◌∙◌, subst, append_assoc, arith}
+use Rattle.std.proofs.Common.{◌≡◌, ℕ, ◌≤◌, List, ◌++◌, length, take, drop, codes, sym, refl, ap, ◌∙◌, subst, arith}
 use Rattle.std.specs.List.{flat_map}
 use Rattle.std.proofs.lemmas.List.{length-append, take_at}
 use Rattle.book.specs.Files.{bytes_of}
 use Rattle.theory.specs.Flattening.{Acceptor, file_length}
-use Rattle.pga.specs.Files.{arc_numbers, jump_numbers, header_numbers, file_numbers, file_of, Fit, IsFile}
+use Rattle.pga.specs.Files.{arc_numbers, jump_numbers, header_numbers, file_of}
 use Rattle.pga.specs.Writing.{Put, FileWritten}
 use Rattle.pga.proofs.Lists.{joined_append}
 use Rattle.pga.proofs.Putting.{put_then}

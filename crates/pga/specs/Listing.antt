@@ -1,7 +1,7 @@
 -- The text of an acceptor, and what list answers and leaves.
 --
 -- The counts of a compile stand on the first line, then each arc and each jump on a line of its own; numbers in decimal, parted by one blank.
-use Rattle.std.specs.Prelude.{◌≡◌, ℕ, ◌<◌, ◌≤◌, List, [], ◌∷◌, ◌++◌, length, drop, Ok, Err, decimal, Result}
+use Rattle.std.specs.Prelude.{◌≡◌, ℕ, ◌<◌, List, [], ◌∷◌, ◌++◌, length, drop, Ok, Err, decimal, Result}
 use Rattle.std.specs.List.{flat_map}
 use Rattle.book.specs.declared.fault.Refusal.{Refusal}
 use Rattle.finding.specs.Numbered.{Arrow}

@@ -1,5 +1,5 @@
 -- Writing bytes into an output, and what write answers and leaves.
-use Rattle.std.specs.Prelude.{◌≡◌, ℕ, ◌+◌, ◌<◌, ◌≤◌, List, [], ◌∷◌, ◌++◌, map, length, take, drop, Ok, Err, Result}
+use Rattle.std.specs.Prelude.{◌≡◌, ℕ, ◌+◌, ◌<◌, ◌≤◌, List, ◌++◌, map, length, take, drop, Ok, Err, Result}
 use Rattle.table.specs.declared.numbers.NodeNo.{NodeNo}
 use Rattle.finding.specs.declared.moves.Move.{Move}
 use Rattle.finding.specs.Numbered.{Arrow}

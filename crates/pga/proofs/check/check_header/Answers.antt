@@ -6,49 +6,49 @@ use Rattle.pga.specs.Flaws.First.{here, later}
 use Rattle.pga.proofs.Judging.{first_left}
 use Rattle.pga.proofs.check.check_header.Goals as goal
 
-pub returns-in-err-check-mark : goal.returns-in-err-check-mark
-returns-in-err-check-mark c =
-    let p = err_from_is_err_and c.from-residual.result c.from-residual.ensures.1 in
-    rw (p.1, p.2) (first_left c.args.file.now c.in-err-check-mark.ensures _)
+pub returns-in_err-check_mark : goal.returns-in_err-check_mark
+returns-in_err-check_mark c =
+    let p = err_from_is_err_and c.from_residual.result c.from_residual.ensures.1 in
+    rw (p.1, p.2) (first_left c.args.file.now c.in_err-check_mark.ensures _)
 
-pub returns-in-err-in-range : goal.returns-in-err-in-range
-returns-in-err-in-range c =
-    let p = err_from_is_err_and c.from-residual-in-err-in-range.result c.from-residual-in-err-in-range.ensures.1 in
-    rw (p.1, p.2) (later c.in-ok-check-mark.ensures.0 (here c.in-err-in-range.ensures))
+pub returns-in_err-in_range : goal.returns-in_err-in_range
+returns-in_err-in_range c =
+    let p = err_from_is_err_and c.from_residual-in_err-in_range.result c.from_residual-in_err-in_range.ensures.1 in
+    rw (p.1, p.2) (later c.in_ok-check_mark.ensures.0 (here c.in_err-in_range.ensures))
 
-pub returns-in-err-words : goal.returns-in-err-words
-returns-in-err-words c =
-    let p = err_from_is_err_and c.from-residual-in-err-words.result c.from-residual-in-err-words.ensures.1 in
-    rw (p.1, p.2) (later c.in-ok-check-mark.ensures.0 (later c.in-ok-in-range.ensures.0 (here c.in-err-words.ensures)))
+pub returns-in_err-words : goal.returns-in_err-words
+returns-in_err-words c =
+    let p = err_from_is_err_and c.from_residual-in_err-words.result c.from_residual-in_err-words.ensures.1 in
+    rw (p.1, p.2) (later c.in_ok-check_mark.ensures.0 (later c.in_ok-in_range.ensures.0 (here c.in_err-words.ensures)))
 
-pub returns-in-err-nodes : goal.returns-in-err-nodes
-returns-in-err-nodes c =
-    let p = err_from_is_err_and c.from-residual-in-err-nodes.result c.from-residual-in-err-nodes.ensures.1 in
+pub returns-in_err-nodes : goal.returns-in_err-nodes
+returns-in_err-nodes c =
+    let p = err_from_is_err_and c.from_residual-in_err-nodes.result c.from_residual-in_err-nodes.ensures.1 in
     rw (p.1, p.2)
-    (later c.in-ok-check-mark.ensures.0 (later c.in-ok-in-range.ensures.0 (later c.in-ok-words.ensures.0
-    (here c.in-err-nodes.ensures))))
+    (later c.in_ok-check_mark.ensures.0 (later c.in_ok-in_range.ensures.0 (later c.in_ok-words.ensures.0
+    (here c.in_err-nodes.ensures))))
 
-pub returns-in-err-final-node : goal.returns-in-err-final-node
-returns-in-err-final-node c =
-    let p = err_from_is_err_and c.from-residual-in-err-final-node.result c.from-residual-in-err-final-node.ensures.1 in
-    let nodes = c.in-ok-nodes.ensures in
+pub returns-in_err-final_node : goal.returns-in_err-final_node
+returns-in_err-final_node c =
+    let p = err_from_is_err_and c.from_residual-in_err-final_node.result c.from_residual-in_err-final_node.ensures.1 in
+    let nodes = c.in_ok-nodes.ensures in
     rw (p.1, p.2)
-    (later c.in-ok-check-mark.ensures.0 (later c.in-ok-in-range.ensures.0 (later c.in-ok-words.ensures.0 (later nodes.0
-    (here (subst (λ n. Fault c.args.file.now (ranged 9 0 n) (refusal c.in-err-final-node.field-0.0)) nodes.1 c.in-err-final-node.ensures))))))
+    (later c.in_ok-check_mark.ensures.0 (later c.in_ok-in_range.ensures.0 (later c.in_ok-words.ensures.0 (later nodes.0
+    (here (subst (λ n. Fault c.args.file.now (ranged 9 0 n) (refusal c.in_err-final_node.field-0.0)) nodes.1 c.in_err-final_node.ensures))))))
 
-pub returns-in-err-arcs : goal.returns-in-err-arcs
-returns-in-err-arcs c =
-    let p = err_from_is_err_and c.from-residual-in-err-arcs.result c.from-residual-in-err-arcs.ensures.1 in
-    let nodes = c.in-ok-nodes.ensures in
+pub returns-in_err-arcs : goal.returns-in_err-arcs
+returns-in_err-arcs c =
+    let p = err_from_is_err_and c.from_residual-in_err-arcs.result c.from_residual-in_err-arcs.ensures.1 in
+    let nodes = c.in_ok-nodes.ensures in
     rw (p.1, p.2)
-    (later c.in-ok-check-mark.ensures.0 (later c.in-ok-in-range.ensures.0 (later c.in-ok-words.ensures.0 (later nodes.0
-    (later (subst (λ n. Passes c.args.file.now (ranged 9 0 n)) nodes.1 c.in-ok-final-node.ensures.0) (here c.in-err-arcs.ensures))))))
+    (later c.in_ok-check_mark.ensures.0 (later c.in_ok-in_range.ensures.0 (later c.in_ok-words.ensures.0 (later nodes.0
+    (later (subst (λ n. Passes c.args.file.now (ranged 9 0 n)) nodes.1 c.in_ok-final_node.ensures.0) (here c.in_err-arcs.ensures))))))
 
-pub returns-in-err-jumps : goal.returns-in-err-jumps
-returns-in-err-jumps c =
-    let p = err_from_is_err_and c.from-residual-in-err-jumps.result c.from-residual-in-err-jumps.ensures.1 in
-    let nodes = c.in-ok-nodes.ensures in
+pub returns-in_err-jumps : goal.returns-in_err-jumps
+returns-in_err-jumps c =
+    let p = err_from_is_err_and c.from_residual-in_err-jumps.result c.from_residual-in_err-jumps.ensures.1 in
+    let nodes = c.in_ok-nodes.ensures in
     rw (p.1, p.2)
-    (later c.in-ok-check-mark.ensures.0 (later c.in-ok-in-range.ensures.0 (later c.in-ok-words.ensures.0 (later nodes.0
-    (later (subst (λ n. Passes c.args.file.now (ranged 9 0 n)) nodes.1 c.in-ok-final-node.ensures.0) (later c.in-ok-arcs.ensures.0
-    (here c.in-err-jumps.ensures)))))))
+    (later c.in_ok-check_mark.ensures.0 (later c.in_ok-in_range.ensures.0 (later c.in_ok-words.ensures.0 (later nodes.0
+    (later (subst (λ n. Passes c.args.file.now (ranged 9 0 n)) nodes.1 c.in_ok-final_node.ensures.0) (later c.in_ok-arcs.ensures.0
+    (here c.in_err-jumps.ensures)))))))

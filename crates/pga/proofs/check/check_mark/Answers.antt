@@ -6,5 +6,5 @@ use Rattle.pga.proofs.check.check_mark.Goals as goal
 pub returns-then-file-lt3 : goal.returns-then-file-lt3
 returns-then-file-lt3 c = here (early c.if-file-lt3.true)
 
-pub returns-then-not-starts-with : goal.returns-then-not-starts-with
-returns-then-not-starts-with c = here (wrong (omega arith) (search rules))
+pub returns-then-not-starts_with : goal.returns-then-not-starts_with
+returns-then-not-starts_with c = here (wrong (omega arith) (search rules))

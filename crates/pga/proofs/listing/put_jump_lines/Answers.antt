@@ -10,15 +10,15 @@ use Rattle.pga.proofs.listing.put_jump_lines.Goals as goal
 pub loop-k-init : goal.loop-k-init
 loop-k-init c = (put_none _ _, omega arith)
 
-pub put-line-end-requires : goal.put-line-end-requires
-put-line-end-requires c = (omega (arith, c.loop-k.invariant.1), omega arith)
+pub put_line-end-requires : goal.put_line-end-requires
+put_line-end-requires c = (omega (arith, c.loop-k.invariant.1), omega arith)
 
 pub loop-k-preserved : goal.loop-k-preserved
 loop-k-preserved c =
     let file = c.args.file.now in let start = c.args.start in let k = c.loop-k.k in
-    let p = c.number-at.ensures in
-    let q = c.number-at-in-loop-k.ensures in
-    let here = subst (λ t. Put c.loop-k.out c.loop-k.end t c.put-line-end.new.out c.put-line-end.result) (λ i. line (p i ∷ (q i ∷ []))) c.put-line-end.ensures.put in (
+    let p = c.number_at.ensures in
+    let q = c.number_at-in-loop-k.ensures in
+    let here = subst (λ t. Put c.loop-k.out c.loop-k.end t c.put_line-end.new.out c.put_line-end.result) (λ i. line (p i ∷ (q i ∷ []))) c.put_line-end.ensures.put in (
       row_put jump_line (λ k. jump_in c.args.file.now (c.args.start + 4 * k)) k c.args.out.now c.loop-k.out _ _ _ _ (omega arith) c.loop-k.invariant.0 here,
       omega (arith, c.loop-k.invariant.1),
     )

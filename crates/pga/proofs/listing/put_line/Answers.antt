@@ -8,13 +8,13 @@ use Rattle.pga.proofs.listing.put_line.Goals as goal
 pub loop-number-init : goal.loop-number-init
 loop-number-init c = (put_none _ _, omega arith)
 
-pub put-byte-end-requires : goal.put-byte-end-requires
-put-byte-end-requires c = omega (arith, c.loop-number.invariant.1)
+pub put_byte-end-requires : goal.put_byte-end-requires
+put_byte-end-requires c = omega (arith, c.loop-number.invariant.1)
 
 pub loop-number-preserved : goal.loop-number-preserved
 loop-number-preserved c = (
-  next_put c.args.rest.now c.loop-number.number-index 0 c.put-decimal-end.new.out c.loop-number.out c.put-byte-end.new.out _ _ _ _ _
-      (omega arith) (omega arith) (omega arith) c.loop-number.invariant.0 c.put-byte-end.ensures c.put-decimal-end-in-loop-number.ensures.put,
+  next_put c.args.rest.now c.loop-number.number-index 0 c.put_decimal-end.new.out c.loop-number.out c.put_byte-end.new.out _ _ _ _ _
+      (omega arith) (omega arith) (omega arith) c.loop-number.invariant.0 c.put_byte-end.ensures c.put_decimal-end-in-loop-number.ensures.put,
   omega (arith, c.loop-number.invariant.1),
 )
 
@@ -22,9 +22,9 @@ pub returns : goal.returns
 returns c =
     let rest = c.args.rest.now in
     let all = put_all next_number rest c.loop-number.number-index _ _ _ _ (omega arith) c.loop-number.invariant.0 in
-    let numbers = put_then c.args.out.now c.put-decimal-end.new.out c.loop-number.out _ _ _ (decimal c.args.first) (flat_map next_number rest)
-    (omega arith) c.put-decimal-end.ensures.put all in
+    let numbers = put_then c.args.out.now c.put_decimal-end.new.out c.loop-number.out _ _ _ (decimal c.args.first) (flat_map next_number rest)
+    (omega arith) c.put_decimal-end.ensures.put all in
     record {
-      put = put_then c.args.out.now c.loop-number.out c.put-byte.new.out _ _ _ _ (10 ∷ []) (omega arith) numbers c.put-byte.ensures;
+      put = put_then c.args.out.now c.loop-number.out c.put_byte.new.out _ _ _ _ (10 ∷ []) (omega arith) numbers c.put_byte.ensures;
       short = omega (arith, c.loop-number.invariant.1);
     }

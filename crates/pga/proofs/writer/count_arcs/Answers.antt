@@ -7,8 +7,8 @@ use Rattle.pga.proofs.Arcs.{arcs_more, arcs_pass, arcs_few, no_move}
 use Rattle.pga.proofs.writer.count_arcs.Goals as goal
 use Rattle.pga.proofs.writer.count_arcs.Goals.{then-m-words, else-m-words}
 
-pub overflow-add-arcs : goal.overflow-add-arcs
-overflow-add-arcs c =
+pub overflow_add-arcs : goal.overflow_add-arcs
+overflow_add-arcs c =
     let ms = c.args.moves.now in let i = c.loop-m.m-index in
     omega (arith, c.loop-m.invariant, arcs_few c.args.words (take i ms), length-take-le i ms (omega arith))
 

@@ -1,4 +1,4 @@
-use Rattle.std.proofs.Common.{◌≡◌, ◌+◌, length, get_or, take, sym, ap, subst, arith}
+use Rattle.std.proofs.Common.{◌+◌, get_or, take, sym, subst, arith}
 use Rattle.std.proofs.lemmas.List.{take_all, length-take-le}
 use Rattle.finding.specs.Finding.{arrow}
 use Rattle.theory.specs.Flattening.{word_moves}
@@ -12,8 +12,8 @@ use Rattle.pga.proofs.writer.put_arcs.Goals.{then-m-words, else-m-words}
 pub loop-m-init : goal.loop-m-init
 loop-m-init c = put_none _ _
 
-pub put-numbers-end-requires : goal.put-numbers-end-requires
-put-numbers-end-requires c =
+pub put_numbers-end-requires : goal.put_numbers-end-requires
+put_numbers-end-requires c =
     let ms = c.args.moves.now in let i = c.loop-m.m-index in
     let arcs = word_moves c.args.words (arrows (take i ms)) in
     omega (arith, length_arc_bytes arcs, arcs_few c.args.words (take i ms), length-take-le i ms (omega arith))
@@ -25,11 +25,11 @@ loop-m-preserved c =
     let before = word_moves words (arrows (take i ms)) in
     let after = word_moves words (arrows (take (i + 1) ms)) in
     elim c.if-m-words.branch [
-      | then-m-words w ↦ subst (λ o. Put out at (arc_bytes after) o c.if-m-words.end) (sym w.out_is)
-          (subst (λ e. Put out at (arc_bytes after) w.put-numbers-end.new.out e) (sym w.end-is)
+      | then-m-words w ↦ subst (λ o. Put out at (arc_bytes after) o c.if-m-words.end) (sym w.out-is)
+          (subst (λ e. Put out at (arc_bytes after) w.put_numbers-end.new.out e) (sym w.end-is)
           (put_row arc_numbers before (arrow node (get_or ms i no_move)) after out c.loop-m.out _ at _ _
-          (arcs_more words ms i no_move c.loop-m-test.true w.if-m-words.true) (omega arith) c.loop-m.invariant w.put-numbers-end.ensures))
-      | else-m-words w ↦ subst (λ o. Put out at (arc_bytes after) o c.if-m-words.end) (sym w.out_is)
+          (arcs_more words ms i no_move c.loop-m-test.true w.if-m-words.true) (omega arith) c.loop-m.invariant w.put_numbers-end.ensures))
+      | else-m-words w ↦ subst (λ o. Put out at (arc_bytes after) o c.if-m-words.end) (sym w.out-is)
           (subst (λ e. Put out at (arc_bytes after) c.loop-m.out e) (sym w.end-is)
           (subst (λ l. Put out at (arc_bytes l) c.loop-m.out c.loop-m.end) (sym (arcs_pass words ms i no_move c.loop-m-test.true w.if-m-words.false)) c.loop-m.invariant))
     ]

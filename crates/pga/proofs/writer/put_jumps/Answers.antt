@@ -1,4 +1,4 @@
-use Rattle.std.proofs.Common.{◌≡◌, ◌+◌, length, get_or, take, subst, arith}
+use Rattle.std.proofs.Common.{◌+◌, get_or, take, subst, arith}
 use Rattle.std.proofs.lemmas.List.{take_all, length-take-le, length-map, map_more}
 use Rattle.pga.specs.Files.{jump_numbers}
 use Rattle.pga.specs.Writing.{Put, pair, pairs}
@@ -9,8 +9,8 @@ use Rattle.pga.proofs.writer.put_jumps.Goals as goal
 pub loop-j-init : goal.loop-j-init
 loop-j-init c = put_none _ _
 
-pub put-numbers-end-requires : goal.put-numbers-end-requires
-put-numbers-end-requires c =
+pub put_numbers-end-requires : goal.put_numbers-end-requires
+put_numbers-end-requires c =
     let js = c.args.jumps.now in let i = c.loop-j.j-index in
     omega (arith, length_jump_bytes (pairs (take i js)), length-map (take i js) pair, length-take-le i js (omega arith))
 
@@ -18,7 +18,7 @@ pub loop-j-preserved : goal.loop-j-preserved
 loop-j-preserved c =
     let js = c.args.jumps.now in let i = c.loop-j.j-index in
     put_row jump_numbers (pairs (take i js)) (pair (get_or js i no_jump)) (pairs (take (i + 1) js)) _ c.loop-j.out _ _ _ _
-    (map_more pair js i no_jump c.loop-j-test.true) (omega arith) c.loop-j.invariant c.put-numbers-end.ensures
+    (map_more pair js i no_jump c.loop-j-test.true) (omega arith) c.loop-j.invariant c.put_numbers-end.ensures
 
 pub returns : goal.returns
 returns c =
