@@ -6,8 +6,8 @@ mod house;
 mod looking;
 mod machines;
 mod making;
-mod policies;
 mod refusing;
+mod remembering;
 mod telling;
 
 use std::io;
@@ -25,6 +25,6 @@ fn main(rt: HostRuntime) -> io::Result<()> {
     looking::chapter(&rt, &table)?;
     filing::chapter(&rt, &table, &mut file)?;
     machines::chapter(&rt, &table)?;
-    policies::chapter(&rt)?;
+    remembering::chapter(&rt)?;
     refusing::chapter(&rt, &mut table, &mut file)
 }
