@@ -6,16 +6,16 @@ use Rattle.fields.specs.Flaws.{Passes, fields}
 use Rattle.fields.proofs.Judging.{fields_more, fields_fault}
 use Rattle.fields.proofs.check.check_fields.Goals as goal
 
-pub returns-in-err-in-range : goal.returns-in-err-in-range
-returns-in-err-in-range c =
-    let p = err_from_is_err_and c.from-residual.result c.from-residual.ensures.1 in
+pub returns-in_err-in_range : goal.returns-in_err-in_range
+returns-in_err-in_range c =
+    let p = err_from_is_err_and c.from_residual.result c.from_residual.ensures.1 in
     rw (p.1, p.2)
-    (fields_fault c.args.file.now c.args.at c.args.limits.now c.loop-i.i (omega arith) c.loop-i.invariant c.in-err-in-range.ensures)
+    (fields_fault c.args.file.now c.args.at c.args.limits.now c.loop-i.i (omega arith) c.loop-i.invariant c.in_err-in_range.ensures)
 
 pub loop-i-preserved : goal.loop-i-preserved
 loop-i-preserved c =
     fields_more c.args.file.now c.args.at c.args.limits.now c.loop-i.i (omega arith)
-    c.loop-i.invariant c.in-ok-in-range.ensures.0
+    c.loop-i.invariant c.in_ok-in_range.ensures.0
 
 pub returns : goal.returns
 returns c =

@@ -7,8 +7,8 @@ use Rattle.std.proofs.lemmas.Bool.Decides.{Decides-eqb}
 pub returns-then-file-lt3 : goal.returns-then-file-lt3
 returns-then-file-lt3 c = early (omega arith)
 
-pub returns-then-not-starts-with : goal.returns-then-not-starts-with
-returns-then-not-starts-with c = wrong (omega arith) (search rules)
+pub returns-then-not-starts_with : goal.returns-then-not-starts_with
+returns-then-not-starts_with c = wrong (omega arith) (search rules)
 
 pub returns : goal.returns
-returns c = (omega arith, sym ((slice_eq-Decides Decides-eqb _ _ _ c.if-not-starts-with.ensures.value).0 refl))
+returns c = (omega arith, sym ((slice_eq-Decides Decides-eqb _ _ _ c.if-not-starts_with.ensures.value).0 refl))

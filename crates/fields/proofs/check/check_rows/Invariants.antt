@@ -4,4 +4,4 @@ use Rattle.fields.specs.Flaws.{Passes, rows}
 use Rattle.fields.proofs.check.check_rows.Given as goal
 
 abbrev pub invariant-loop-k : goal.invariant-loop-k
-invariant-loop-k l = (l.at ≡ l.start + 2 * length l.limits * l.-k) × AllByRecursion (Passes l.file) (rows l.start l.limits l.-k)
+invariant-loop-k l = (l.at ≡ l.start + 2 * length l.limits * l._k) × AllByRecursion (Passes l.file) (rows l.start l.limits l._k)

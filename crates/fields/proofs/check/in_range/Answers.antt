@@ -7,5 +7,5 @@ returns-then-file-at c = early c.if-file-at.true
 
 pub returns-then-number-least : goal.returns-then-number-least
 returns-then-number-least c =
-    let e = c.number-at-number.ensures in
+    let e = c.number_at-number.ensures in
     wrong (omega arith) (λ r. ⊎_elim (λ z. omega (arith, r.0)) (λ z. omega (arith, r.1)) c.then-number-least.either)

@@ -10,6 +10,6 @@ returns c =
     let at = c.args.at in
     let byte = c.args.byte in
     elim c.if-at-out.branch [
-      | then-at-out w ↦ subst (λ o. Put out at (byte ∷ []) o (at + 1)) (sym w.out_is) (put_one out at byte w.if-at-out.true)
-      | else-at-out w ↦ subst (λ o. Put out at (byte ∷ []) o (at + 1)) (sym w.out_is) (put_past out at byte w.if-at-out.false)
+      | then-at-out w ↦ subst (λ o. Put out at (byte ∷ []) o (at + 1)) (sym w.out-is) (put_one out at byte w.if-at-out.true)
+      | else-at-out w ↦ subst (λ o. Put out at (byte ∷ []) o (at + 1)) (sym w.out-is) (put_past out at byte w.if-at-out.false)
     ]

@@ -3,4 +3,4 @@ use Rattle.fields.proofs.Putting.{put_then}
 use Rattle.fields.proofs.output.put_number.Goals as goal
 
 pub returns : goal.returns
-returns c = put_then _ _ _ _ _ _ _ _ (omega arith) c.put-byte-middle.ensures c.put-byte.ensures
+returns c = put_then _ _ _ _ _ _ _ _ (omega arith) c.put_byte-middle.ensures c.put_byte.ensures

@@ -11,8 +11,8 @@ use Rattle.pgd.proofs.writer.put_arcs.Goals as goal
 pub loop-m-init : goal.loop-m-init
 loop-m-init c = put_none _ _
 
-pub put-numbers-end-requires : goal.put-numbers-end-requires
-put-numbers-end-requires c =
+pub put_numbers-end-requires : goal.put_numbers-end-requires
+put_numbers-end-requires c =
     let ms = c.args.arcs.now in let i = c.loop-m.m-index in
     omega (arith, length_arc_bytes (arrows (take i ms)), length-map (take i ms) plain, length-take-le i ms (omega arith))
 
@@ -20,7 +20,7 @@ pub loop-m-preserved : goal.loop-m-preserved
 loop-m-preserved c =
     let ms = c.args.arcs.now in let i = c.loop-m.m-index in
     put_row arc_numbers (arrows (take i ms)) (plain (get_or ms i no_move)) (arrows (take (i + 1) ms)) _ c.loop-m.out _ _ _ _
-    (map_more plain ms i no_move c.loop-m-test.true) (omega arith) c.loop-m.invariant c.put-numbers-end.ensures
+    (map_more plain ms i no_move c.loop-m-test.true) (omega arith) c.loop-m.invariant c.put_numbers-end.ensures
 
 pub returns : goal.returns
 returns c =

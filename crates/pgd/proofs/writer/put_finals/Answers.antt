@@ -8,8 +8,8 @@ use Rattle.pgd.proofs.writer.put_finals.Goals as goal
 pub loop-row-init : goal.loop-row-init
 loop-row-init c = put_none _ _
 
-pub put-byte-end-requires : goal.put-byte-end-requires
-put-byte-end-requires c =
+pub put_byte-end-requires : goal.put_byte-end-requires
+put_byte-end-requires c =
     let rows = c.args.rows.now in let i = c.loop-row.row-index in
     omega (arith, c.loop-row.invariant.ends, length_rows_bytes c.args.final_node (take i rows), length-take-le i rows (omega arith))
 
@@ -18,8 +18,8 @@ loop-row-preserved c =
     let rows = c.args.rows.now in let final = c.args.final_node in
     let i = c.loop-row.row-index in let row = c.row-item.result in
     let byte : c.final_byte.result ≡ row_byte final (get_or rows i row) = c.final_byte.ensures ∙ ap (row_byte final) c.row-item.is in
-    let here = subst (λ b. Put c.loop-row.out c.loop-row.end (b ∷ []) c.put-byte-end.new.out c.put-byte-end.result) byte
-    c.put-byte-end.ensures in
+    let here = subst (λ b. Put c.loop-row.out c.loop-row.end (b ∷ []) c.put_byte-end.new.out c.put_byte-end.result) byte
+    c.put_byte-end.ensures in
     put_more (λ e. row_byte final e ∷ []) rows i c.args.out.now c.loop-row.out _ _ _ _ row c.loop-row-test.true (omega arith)
     c.loop-row.invariant here
 

@@ -13,14 +13,14 @@ returns-then-out-needed c =
     let arcs = length-map c.args.parts.arcs.now plain in
     (omega arith, omega arith, refl)
 
-pub put-arcs-requires : goal.put-arcs-requires
-put-arcs-requires c =
+pub put_arcs-requires : goal.put_arcs-requires
+put_arcs-requires c =
     let rows = c.args.parts.rows.now in let final = c.args.parts.final_node in
-    let header = c.header-of-header.result in (
+    let header = c.header_of-header.result in (
       omega (
         arith,
         length_bytes header,
-        ap length c.header-of-header.ensures,
+        ap length c.header_of-header.ensures,
         length-map (map (is_final final) (sets rows)) final_byte,
         length_finals final rows,
       ),
@@ -32,11 +32,11 @@ returns c =
     let rows = c.args.parts.rows.now in let final = c.args.parts.final_node in
     let d = determined c.args.parts.words rows final c.args.parts.arcs.now in
     let arcs = length-map c.args.parts.arcs.now plain in
-    let header = c.header-of-header.result in
-    let is = c.header-of-header.ensures in
+    let header = c.header_of-header.result in
+    let is = c.header_of-header.ensures in
     let same : header ≡ header_numbers d = cc in
-    file_written d c.args.out.now c.put-arcs.new.out c.put-arcs.result (length_finals final rows) (omega arith)
-    (file_put d header c.args.out.now _ c.put-numbers-finals-at.new.out c.put-finals-arcs-at.new.out c.put-arcs.new.out _ _ _ same
+    file_written d c.args.out.now c.put_arcs.new.out c.put_arcs.result (length_finals final rows) (omega arith)
+    (file_put d header c.args.out.now _ c.put_numbers-finals_at.new.out c.put_finals-arcs_at.new.out c.put_arcs.new.out _ _ _ same
     (omega arith) (omega arith) (omega arith)
-    (put_mark c.args.out.now _ (codes "PGD") c.copy-from-slice.ensures.after refl) c.put-numbers-finals-at.ensures
-    c.put-finals-arcs-at.ensures c.put-arcs.ensures)
+    (put_mark c.args.out.now _ (codes "PGD") c.copy_from_slice.ensures.after refl) c.put_numbers-finals_at.ensures
+    c.put_finals-arcs_at.ensures c.put_arcs.ensures)
