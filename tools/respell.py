@@ -1,7 +1,7 @@
 #!/usr/bin/env python3
 """Respells the repository's own definitions, lemmas, fields and constructors as the language now does: words in snake case.
 
-usage: python3 tools/respell.py        (at the top of the repository; rewrites crates/ in place, and names in backticks in docs/ and README.md)
+usage: python3 tools/respell.py        (at the top of the repository; rewrites crates/ in place, names in backticks in comments too)
 
 A name is one that a file of specs/ or proofs/ declares. Functions of src/, names that the checker generates (goals, steps) and
 names of the libraries keep their spelling. Names that would fall together are listed, and have a row in OTHER.
@@ -17,8 +17,8 @@ HEADED = re.compile(rf"(?m)^\s*(?:pub )?(?:data|record) ({NAME})")
 TACTICS = {
     "crates/theory/specs/Executable.antt": {"search": "search_of"},
     "crates/theory/proofs/Searching.antt": {"search": "search_of"},
-    "crates/theory/proofs/Items.antt": {"first_of": "first_dotted"},
-    "crates/flattening/proofs/Linking.antt": {"first_of": "first_dotted"},
+    "crates/theory/proofs/Items.antt": {"first_of": "first_placed"},
+    "crates/flattening/proofs/Linking.antt": {"first_of": "first_placed"},
 }
 # An import under the name of another word of the library.
 ALL = "AllByRecursion as All"
