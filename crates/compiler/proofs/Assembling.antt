@@ -1,5 +1,5 @@
 -- From what each layer answers to what compile answers.
-use Rattle.std.proofs.Common.{◌≡◌, ℕ, ◌+◌, ◌-◌, ◌<◌, ◌≤◌, min, List, ◌++◌, map, length, take, drop, Ok, Err, sym, ap, ◌∙◌, subst, arith, length-take-le}
+use Rattle.std.proofs.Common.{◌≡◌, refl, ℕ, ◌+◌, ◌-◌, ◌<◌, ◌≤◌, min, List, ◌++◌, map, length, take, drop, Ok, Err, sym, ap, ◌∙◌, subst, arith, length-take-le}
 use native.Mathlib.Nat.{sub-zero}
 use lib.ListN.{length-map}
 use Rattle.std.proofs.lemmas.List.{length-take}
@@ -46,6 +46,7 @@ use Rattle.compiler.specs.declared.fault.CompileFault.{CompileFault}
 use Rattle.compiler.specs.Compiling.{refusal, Lengths, Built, Opened, CompileRefusal, Compiled}
 use Rattle.compiler.specs.Compiling.CompileRefusal.{output, nodes as in_nodes, machine as in_machine, jumps as in_jumps}
 use Rattle.compiler.proofs.Composing.{composed, file_laws}
+use Rattle.compiler.proofs.Fitting.{fits}
 
 -- the machine that was written, over the lent tables
 
@@ -197,6 +198,7 @@ module _ {book : List ℕ} {m : Meaning} {room : Room} {l : Lengths} {g : Gramma
         opened = o;
         flat = flat_is;
         jumps_fit = few;
+        fit = fits b o flat is_flat refl refl refl (omega arith);
         out_is = w.is ∙ ap (λ z. file_of z ++ drop n out) written_is ∙ ap (λ z. file_of flat ++ drop z out) used;
         state_count = s₁;
         move_count = s₂;

@@ -1,2 +1,4 @@
 pub mod Composing
+pub mod Fitting
 pub mod Assembling
+pub mod Accepting

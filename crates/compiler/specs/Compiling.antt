@@ -1,5 +1,5 @@
 -- What compile answers and leaves.
-use Rattle.std.specs.Prelude.{◌≡◌, ℕ, ◌<◌, ◌≤◌, min, List, ◌++◌, length, drop, Ok, Err, Result}
+use Rattle.std.specs.Prelude.{◌≡◌, ℕ, ◌<◌, ◌≤◌, min, ◌≢◌, List, [], ◌∷◌, ◌++◌, map, length, drop, Ok, Err, Result}
 use Rattle.book.specs.declared.fault.Refusal.{Refusal}
 use Rattle.book.specs.Grammar.{Grammar, symbols}
 use Rattle.book.specs.Refusals.{refusal as book_refusal}
@@ -12,11 +12,11 @@ use Rattle.theory.specs.Policies.{Meaning}
 use Rattle.theory.specs.Unfolding.{Node, Unfolded}
 use Rattle.theory.specs.Flattening.{Acceptor, file_length, FlattenedFrom}
 use Rattle.machine.specs.Machines.{MachineRefusal, refusal as machine_refusal}
-use Rattle.policy.specs.Classes.{Room}
+use Rattle.policy.specs.Classes.{Room, HasPlace}
 use Rattle.unfolding.specs.Refusals.{refusal as unfolding_refusal}
 use Rattle.unfolding.specs.Unfoldings.{UnfoldingRefusal, limits, first_node}
 use Rattle.flattening.specs.Flat.{JumpsOf, told, refusal as jump_refusal}
-use Rattle.pga.specs.Files.{file_of}
+use Rattle.pga.specs.Files.{file_of, Fit}
 use Rattle.pga.specs.declared.listing.Counts.{Counts}
 use Rattle.compiler.specs.declared.fault.CompileFault.{CompileFault}
 use Rattle.compiler.specs.declared.fault.CompileFault.TheVariants.{Book, Machine as InMachine, Unfolding, Jumps, OutputShort}
@@ -62,7 +62,7 @@ pub data CompileRefusal (book : List ℕ) (m : Meaning) (room : Room) (l : Lengt
       → (f : Acceptor) → FlattenedFrom g states nodes arrows f → length f.jumps ≤ min l.jumps 16384 → l.out < file_length f
       → CompileRefusal book m room l (told 16 (file_length f))
 
--- the output begins with the file of the book's acceptor under the policy, and is otherwise as it was; the counts are the sizes
+-- the output begins with the file of the book's acceptor under the policy, which open takes, and is otherwise as it was; the counts are the sizes
 pub record Compiled (book : List ℕ) (m : Meaning) (room : Room) (l : Lengths) (out out' : List ℕ) (c : Counts) : Type 0 where
   pub grammar : Grammar
   pub states : List (List ℕ)
@@ -74,6 +74,7 @@ pub record Compiled (book : List ℕ) (m : Meaning) (room : Room) (l : Lengths) 
   pub opened : Opened m room l grammar moves nodes arrows
   pub flat : FlattenedFrom grammar states nodes arrows acceptor
   pub jumps_fit : length acceptor.jumps ≤ min l.jumps 16384
+  pub fit : Fit acceptor
   pub out_is : out' ≡ file_of acceptor ++ drop (file_length acceptor) out
   pub state_count : c.states ≡ length states
   pub move_count : c.moves ≡ length moves
@@ -83,6 +84,24 @@ pub record Compiled (book : List ℕ) (m : Meaning) (room : Room) (l : Lengths) 
   pub jump_count : c.jumps ≡ length acceptor.jumps
   pub laws : FileLaws grammar m acceptor
 
+-- the book holds a grammar whose machine, unfolding and acceptor fit the tables and the output, and each class has a place when its node is found
+pub record FitsTables (book : List ℕ) (m : Meaning) (room : Room) (l : Lengths) : Type 0 where
+  pub grammar : Grammar
+  pub states : List (List ℕ)
+  pub moves : List Arrow
+  pub nodes : List Node
+  pub arrows : List Arrow
+  pub acceptor : Acceptor
+  pub built : Built book l grammar states moves
+  pub unfolded : Unfolded m moves (symbols grammar) nodes arrows
+  pub flat : FlattenedFrom grammar states nodes arrows acceptor
+  pub nodes_fit : length nodes ≤ min l.nodes 4096
+  pub arrows_fit : length arrows ≤ min l.unfolded 16384
+  pub jumps_fit : length acceptor.jumps ≤ min l.jumps 16384
+  pub output_fits : file_length acceptor ≤ l.out
+  pub placed : (front rest : List Node) (n : Node) → nodes ≡ front ++ (n ∷ rest) → front ≢ [] → HasPlace room (map (λ k. k.class) front) n.class
+
+-- what compile answers and leaves; it is refused only where something does not fit
 abbrev pub CompiledOr : List ℕ → Meaning → Room → Lengths → List ℕ → Result Counts CompileFault → List ℕ → Type 0
 CompiledOr book m room l out (Ok c) out' = Compiled book m room l out out' c
-CompiledOr book m room l out (Err f) out' = CompileRefusal book m room l (refusal f) × (out' ≡ out)
+CompiledOr book m room l out (Err f) out' = CompileRefusal book m room l (refusal f) × (out' ≡ out) × (FitsTables book m room l → ⊥)

@@ -5,9 +5,9 @@ ghost use Rattle.compiler.specs.declared.fault.CompileFault.TheVariants.{Book, U
 ghost use Rattle.compiler.specs.Compiling.{refusal as refusal_of};
 
 use book::{BookFault, Refusal};
+use fields::fault::OutputShort as TooShort;
 use flattening::fault::JumpFault;
 use machine::fault::MachineFault;
-use pga::writer::OutputShort as TooShort;
 use unfolding::fault::UnfoldingFault;
 
 /// Why a book is not compiled. The book's fault is carried whole.

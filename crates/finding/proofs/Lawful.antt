@@ -96,7 +96,7 @@ all_mem f (e ∷ es) zero a t s m = let q : a ≡ e = cc in Memᴰ.append_left (
 all_mem f (e ∷ es) (suc i) a t s m = Memᴰ.append_right (f e) (all_mem f es i a t s m)
 
 -- a list that ends in u, parted before e: either e is that u, or the parting stands before it
-parts_push : {A : Type 0} (es : List A) (u e : A) (before after : List A) → es ++ (u ∷ []) ≡ before ++ (e ∷ after) → ((es ≡ before) × (u ≡ e)) ⊎ ((rest : List A) × (es ≡ before ++ (e ∷ rest)))
+pub parts_push : {A : Type 0} (es : List A) (u e : A) (before after : List A) → es ++ (u ∷ []) ≡ before ++ (e ∷ after) → ((es ≡ before) × (u ≡ e)) ⊎ ((rest : List A) × (es ≡ before ++ (e ∷ rest)))
 parts_push [] u e [] after q = inl (refl, cc)
 parts_push [] u e (b ∷ []) after q = let z : ◌≡◌ {A = ℕ} 0 1 = cc in absurd (omega arith)
 parts_push [] u e (b ∷ (d ∷ before)) after q = let z : ◌≡◌ {A = ℕ} 0 1 = cc in absurd (omega arith)

@@ -4,6 +4,7 @@ pub mod Functional
 pub mod Lawful
 pub mod Taking
 pub mod Visiting
+pub mod Fitting
 pub mod Starting
 pub mod Limited
 pub mod Plain

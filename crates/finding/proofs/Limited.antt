@@ -5,8 +5,8 @@ use Rattle.finding.specs.declared.moves.Count.{Count}
 use Rattle.finding.specs.declared.moves.Move.{Move}
 use Rattle.finding.specs.declared.moves.Stop.{Stop}
 use Rattle.finding.specs.Laws.{Laws}
-use Rattle.finding.specs.Numbered.{Numbered, upto}
-use Rattle.finding.specs.Finding.{Bounded, arrow, Whole}
+use Rattle.finding.specs.Numbered.{upto}
+use Rattle.finding.specs.Finding.{Bounded, arrow, Whole, Fits}
 use Rattle.finding.specs.Spaces.{Held, Answered}
 
 module _ {E N : Type 0} (ready : List E → Type 0) (rows rest : List E) (moves later : List (Move N)) where
@@ -31,13 +31,13 @@ module _ {E N : Type 0} (ready : List E → Type 0) (rows rest : List E) (moves 
       record {
         found = subst (λ (l : List E). Whole b start (map f l) (map (arrow v) (take c.moves (moves ++ later)))) (same_rows c h)
             (subst (λ (l : List (Move N)). Whole b start (map f (take c.entries rows)) (map (arrow v) l)) (same_moves c h) a.found);
-        numbered = subst (λ (l : List E). Numbered b.sought.step (upto b.sought.symbols) start (map f l) (map (arrow v) (take c.moves (moves ++ later)))) (same_rows c h)
-            (subst (λ (l : List (Move N)). Numbered b.sought.step (upto b.sought.symbols) start (map f (take c.entries rows)) (map (arrow v) l)) (same_moves c h) a.numbered);
+        fits = subst (λ (l : List E). Fits b start (map f l) (map (arrow v) (take c.moves (moves ++ later)))) (same_rows c h)
+            (subst (λ (l : List (Move N)). Fits b start (map f (take c.entries rows)) (map (arrow v) l)) (same_moves c h) a.fits);
         laws = subst (λ (l : List E). Laws b.sought.step (upto b.sought.symbols) start (map f l) (map (arrow v) (take c.moves (moves ++ later)))) (same_rows c h)
             (subst (λ (l : List (Move N)). Laws b.sought.step (upto b.sought.symbols) start (map f (take c.entries rows)) (map (arrow v) l)) (same_moves c h) a.laws);
         only = a.only;
       }
-  answered_whole (Err s) h a = record { found = a.found; numbered = a.numbered; laws = a.laws; only = a.only }
+  answered_whole (Err s) h a = record { found = a.found; fits = a.fits; laws = a.laws; only = a.only }
 
 pub answered_as : {E A N : Type 0} {b d : Bounded A} {start : A} {f : E → A} {v : N → ℕ} {rows : List E} {moves : List (Move N)} {r : Result Count Stop} → b ≡ d → Answered b start f v rows moves r → Answered d start f v rows moves r
 answered_as {start = start} {f} {v} {rows} {moves} {r} e a = subst (λ y. Answered y start f v rows moves r) e a

@@ -10,6 +10,7 @@ use Rattle.finding.specs.Finding.Refused.{met}
 use Rattle.finding.specs.declared.moves.Count.{Count}
 use Rattle.finding.specs.Spaces.{Answered}
 use Rattle.finding.proofs.Functional.{whole_or_refused, refused_same}
+use Rattle.finding.proofs.Fitting.{fits_whole, found_fits}
 use Rattle.finding.proofs.Lawful.{whole_numbered}
 use Rattle.finding.proofs.Laws.{numbered_laws, upto_ascending}
 use Rattle.finding.proofs.Visiting.{joins}
@@ -45,7 +46,7 @@ module _ {E A N : Type 0} {b : Bounded A} {start : A} (f : E → A) (v : N → �
   pub whole_answers : (c : Count) → Whole b start (map f (take c.entries rows)) (map (arrow v) (take c.moves moves)) → Answered b start f v rows moves (Ok c)
   whole_answers c w =
       let n = whole_numbered start w in
-      record { found = w; numbered = n; laws = numbered_laws n (upto_ascending b.sought.symbols); only = λ stop r. whole_or_refused w r }
+      record { found = w; fits = found_fits w; laws = numbered_laws n (upto_ascending b.sought.symbols); only = λ stop r. whole_or_refused w r }
 
   pub refused_answers : {s : Stop} → Refused b start s → Answered b start f v rows moves (Err s)
-  refused_answers r = record { found = r; numbered = λ es ms w. whole_or_refused w r; laws = tt; only = λ stop q. refused_same q r }
+  refused_answers r = record { found = r; fits = λ es ms f. whole_or_refused (fits_whole f) r; laws = tt; only = λ stop q. refused_same q r }

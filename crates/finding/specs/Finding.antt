@@ -1,11 +1,11 @@
 -- A search in finding order, turn by turn: what it finds, and what stops it.
-use Rattle.std.specs.Prelude.{◌≡◌, ℕ, ◌+◌, ◌<◌, ◌≤◌, ◌⊎◌, List, [], ◌∷◌, ◌++◌, map, length, take}
+use Rattle.std.specs.Prelude.{◌≡◌, ℕ, ◌+◌, ◌<◌, ◌≤◌, ◌≢◌, ◌⊎◌, List, [], ◌∷◌, ◌++◌, map, length, take}
 use Rattle.std.proofs.Math.Option.{Option, none, some}
 use Rattle.table.specs.Lists.{StandsAt, Lacks}
 use Rattle.finding.specs.declared.moves.Stop.{Stop}
 use Rattle.finding.specs.declared.moves.Stop.TheVariants.{Room, Entry, Arrow}
 use Rattle.finding.specs.declared.moves.Move.{Move}
-use Rattle.finding.specs.Numbered.{Arrow as Arrow₃}
+use Rattle.finding.specs.Numbered.{Arrow as Arrow₃, Numbered, upto}
 
 -- a move of the table as plain numbers
 abbrev pub arrow : {N : Type 0} → (N → ℕ) → Move N → Arrow₃
@@ -86,3 +86,10 @@ Whole b start es ms = Finding b start (place es ms (length es) 0)
 pub data Refused {A : Type 0} (b : Bounded A) (start : A) : Stop → Type 0 where
   empty : b.most ≡ 0 → Refused b start (Entry 0)
   met : {stop : Stop} (p : Place A) → Finding b start p → Stopped b p stop → Refused b start stop
+
+-- the numbering from `start` fits: its entries and moves are within the limits, and each entry but the start has a place beside those before it
+pub record Fits {A : Type 0} (b : Bounded A) (start : A) (es : List A) (ms : List Arrow₃) : Type 0 where
+  pub numbered : Numbered b.sought.step (upto b.sought.symbols) start es ms
+  pub few : length es ≤ b.most
+  pub few_moves : length ms ≤ b.most_moves
+  pub placed : (front rest : List A) (t : A) → es ≡ front ++ (t ∷ rest) → front ≢ [] → b.sought.room front t

@@ -5,9 +5,9 @@ use Rattle.table.specs.Lists.{StandsAt, Lacks}
 use Rattle.finding.specs.declared.moves.Count.{Count}
 use Rattle.finding.specs.declared.moves.Move.{Move}
 use Rattle.finding.specs.declared.moves.Stop.{Stop}
-use Rattle.finding.specs.Finding.{Search, Bounded, arrow, Whole, Refused}
+use Rattle.finding.specs.Finding.{Search, Bounded, arrow, Whole, Refused, Fits}
 use Rattle.finding.specs.Laws.{Laws}
-use Rattle.finding.specs.Numbered.{Arrow, Numbered, upto}
+use Rattle.finding.specs.Numbered.{Arrow, upto}
 
 -- the thing a moves on x
 abbrev pub Moves : {A : Type 0} → Search A → A → ℕ → Type 0
@@ -39,9 +39,10 @@ pub record Held {E N : Type 0} (ready : List E → Type 0) (rows : List E) (move
 -- what a search from `start` answers: the whole numbering, as the tables then show it, or what refuses it; and nothing else is possible
 pub record Answered {E A N : Type 0} (b : Bounded A) (start : A) (thing : E → A) (value : N → ℕ) (rows : List E) (moves : List (Move N)) (r : Result Count Stop) : Type 0 where
   pub found : MatchResult r (λ c. Whole b start (map thing (take c.entries rows)) (map (arrow value) (take c.moves moves))) (λ stop. Refused b start stop)
-  pub numbered : MatchResult r
-      (λ c. Numbered b.sought.step (upto b.sought.symbols) start (map thing (take c.entries rows)) (map (arrow value) (take c.moves moves)))
-      (λ _. (es : List A) (ms : List Arrow) → Whole b start es ms → ⊥)
+  -- the numbering fits; or it is refused, and then no numbering fits
+  pub fits : MatchResult r
+      (λ c. Fits b start (map thing (take c.entries rows)) (map (arrow value) (take c.moves moves)))
+      (λ _. (es : List A) (ms : List Arrow) → Fits b start es ms → ⊥)
   pub laws : MatchResult r
       (λ c. Laws b.sought.step (upto b.sought.symbols) start (map thing (take c.entries rows)) (map (arrow value) (take c.moves moves)))
       (λ _. Unit {0})

@@ -21,7 +21,6 @@ use Rattle.finding.specs.Finding.{arrow, within, Refused}
 use Rattle.finding.specs.Finding.Refused.{met}
 use Rattle.finding.specs.Finding.Stopped.{no_room}
 use Rattle.finding.specs.Spaces.{Answered}
-use Rattle.finding.proofs.Bounds.{whole_fits}
 use Rattle.theory.specs.Closure.{initial}
 use Rattle.theory.specs.Machine.{Machine, MachineLaws}
 use Rattle.theory.proofs.Items.{fit_sound}
@@ -72,18 +71,17 @@ module _ {t : List ℕ} (g : Grammar) (h : Holds t g) (start : NumberSet ItemNo)
   module _ (c : Count) (a : Answered (limits g room moves-room) (initial g) thing plain_number rows moves (Ok c)) (n-in : c.entries ≤ length rows) (m-in : c.moves ≤ length moves) where
     is_machine : Machine g (sets c.entries rows) (arrows c.moves moves)
     unfolding limits machine_search
-    is_machine = a.numbered
+    is_machine = a.fits.numbered
 
     laws : MachineLaws g (sets c.entries rows) (arrows c.moves moves)
     laws = machine_laws g (fit_sound g h.fit) is_machine
 
     pub counts : (c.entries ≤ min room 1024) × (c.moves ≤ min moves-room 16384)
     unfolding limits
-    counts =
-        let w = whole_fits (limits g room moves-room) (initial g) _ _ a.found in (
-          omega (arith, w.0, length-map (take c.entries rows) thing, length-take-le c.entries rows n-in),
-          omega (arith, w.1, length-map (take c.moves moves) (arrow plain_number), length-take-le c.moves moves m-in),
-        )
+    counts = (
+      omega (arith, a.fits.few, length-map (take c.entries rows) thing, length-take-le c.entries rows n-in),
+      omega (arith, a.fits.few_moves, length-map (take c.moves moves) (arrow plain_number), length-take-le c.moves moves m-in),
+    )
 
     pub has_final : FoundFinal (take c.entries rows) None → ⊥
     has_final none =

@@ -1,11 +1,7 @@
-pub mod Lists
-pub mod Putting
 pub mod Arcs
 pub mod Written
-pub mod Judging
 pub mod Parts
 pub mod Decoding
-pub mod Counted
 pub mod Decided
 pub mod Unique
 pub mod Text

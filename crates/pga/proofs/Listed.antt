@@ -2,16 +2,17 @@
 use Rattle.std.proofs.Common.{◌≡◌, ℕ, ◌+◌, ◌*◌, ◌<◌, ◌≤◌, List, length, Ok, sym, ap, ◌∙◌, subst, arith}
 use Rattle.std.specs.List.{flat_map}
 use Rattle.std.proofs.lemmas.List.FromFn.{length-map-range_with_len}
+use Rattle.fields.specs.Reading.{number_at, arcs_from}
+use Rattle.fields.specs.Refusals.{told}
+use Rattle.fields.specs.Putting.{Put}
+use Rattle.fields.proofs.Putting.{put_then}
 use Rattle.pga.specs.declared.check.Header.{Header}
 use Rattle.pga.specs.declared.listing.Counts.{Counts}
 use Rattle.pga.specs.Files.{IsFile}
-use Rattle.pga.specs.Refusals.{told}
-use Rattle.pga.specs.Reading.{number_at, arcs_from, jumps_from, decoded}
-use Rattle.pga.specs.Writing.{Put}
+use Rattle.pga.specs.Reading.{jumps_from, decoded}
 use Rattle.pga.specs.Checks.{Checked}
 use Rattle.pga.specs.Listing.{counts_line, arc_line, jump_line, lines, TextWritten, ListRefused}
 use Rattle.pga.specs.Listing.ListRefused.{short}
-use Rattle.pga.proofs.Putting.{put_then}
 use Rattle.pga.proofs.Written.{length_file}
 use Rattle.pga.proofs.Decoding.{arc_of, jump_of}
 
@@ -40,10 +41,12 @@ sizes bytes h (f, e) =
 
 module _ (counts : Counts) (bytes : List ℕ) (h : Header) (s : Sizes bytes h) (o p q r : List ℕ) (a b c : ℕ) where
   pub text_put : length p ≡ length o → length q ≡ length o
-      → Put o 0 (counts_line counts) p a → Put p a (flat_map arc_line (arcs_from bytes 15 h.arcs)) q b → Put q b (flat_map jump_line (jumps_from bytes (15 + 6 * h.arcs) h.jumps)) r c
+      → Put o 0 (counts_line counts) p a → Put p a (flat_map arc_line (arcs_from bytes 15 h.arcs)) q b
+      → Put q b (flat_map jump_line (jumps_from bytes (15 + 6 * h.arcs) h.jumps)) r c
       → Put o 0 (lines counts (decoded bytes)) r c
   text_put l m x y z =
-      let e : flat_map arc_line (arcs_from bytes 15 h.arcs) ≡ flat_map arc_line (decoded bytes).arcs = ap (λ n. flat_map arc_line (arcs_from bytes 15 n)) s.arcs in
+      let e : flat_map arc_line (arcs_from bytes 15 h.arcs) ≡ flat_map arc_line (decoded bytes).arcs =
+      ap (λ n. flat_map arc_line (arcs_from bytes 15 n)) s.arcs in
       let g : flat_map jump_line (jumps_from bytes (15 + 6 * h.arcs) h.jumps) ≡ flat_map jump_line (decoded bytes).jumps =
       (λ i. flat_map jump_line (jumps_from bytes (15 + 6 * s.arcs i) (s.jumps i))) in
       put_then o p r 0 a c (counts_line counts) _ l x
@@ -56,7 +59,8 @@ pub text_short : (counts : Counts) (file : List ℕ) (n room : ℕ) → IsFile f
 text_short counts file n room f e h = subst (λ m. ListRefused counts file room (told 16 m)) (sym e) (short (decoded file) f (omega arith))
 
 -- what list leaves
-pub text_written : (counts : Counts) (file out out' : List ℕ) (n room : ℕ) → IsFile file (decoded file) → room ≡ length (lines counts (decoded file)) → room ≤ length out
+pub text_written : (counts : Counts) (file out out' : List ℕ) (n room : ℕ) → IsFile file (decoded file)
+    → room ≡ length (lines counts (decoded file)) → room ≤ length out
     → Put out 0 (lines counts (decoded file)) out' n → TextWritten counts file out out' n
 text_written counts file out out' n room f e h p =
     let used = p.ends in

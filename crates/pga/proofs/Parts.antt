@@ -3,14 +3,15 @@ use Rattle.std.proofs.Common.{◌≡◌, ℕ, ◌+◌, ◌*◌, ◌<◌, ◌≤�
 use Rattle.std.specs.List.{AllByRecursion}
 use Rattle.std.proofs.ByRecursion.{All-append}
 use Rattle.book.specs.declared.fault.Refusal.{Refusal}
+use Rattle.fields.specs.Reading.{number_at}
+use Rattle.fields.specs.Refusals.{told}
+use Rattle.fields.specs.Flaws.{Check, ends, Passes, First, rows}
+use Rattle.fields.specs.Flaws.Fault.{wrong}
+use Rattle.fields.specs.Flaws.First.{here}
+use Rattle.fields.proofs.Judging.{first_left, first_right, rows_there}
 use Rattle.pga.specs.declared.check.Header.{Header}
-use Rattle.pga.specs.Reading.{number_at}
-use Rattle.pga.specs.Refusals.{told}
-use Rattle.pga.specs.Flaws.{Check, ends, Passes, First, rows, header_checks, arc_checks, jump_checks, file_checks, FileFault}
-use Rattle.pga.specs.Flaws.Fault.{wrong}
-use Rattle.pga.specs.Flaws.First.{here}
+use Rattle.pga.specs.Flaws.{header_checks, arc_checks, jump_checks, file_checks, FileFault}
 use Rattle.pga.specs.Checks.{Headed}
-use Rattle.pga.proofs.Judging.{first_left, first_right, rows_there}
 
 module _ (bytes : List ℕ) (h : Header) (head : Headed bytes h) where
   -- the rows that the header's numbers ask for
@@ -36,7 +37,8 @@ module _ (bytes : List ℕ) (h : Header) (head : Headed bytes h) where
   pub jumps_fault : {at : ℕ} {f : Refusal} → at ≡ 15 + 6 * h.arcs → AllByRecursion (Passes bytes) arcs_of → First bytes (jumps_of at) f → FileFault bytes f
   jumps_fault {at} {f} e a x =
       first_right bytes (header_checks bytes) head.sound
-      (first_right bytes (arc_checks bytes) (subst (AllByRecursion (Passes bytes)) same_arcs a) (first_left bytes (subst (λ cs. First bytes cs f) (same_jumps e) x) _))
+      (first_right bytes (arc_checks bytes) (subst (AllByRecursion (Passes bytes)) same_arcs a)
+      (first_left bytes (subst (λ cs. First bytes cs f) (same_jumps e) x) _))
 
   module _ {at end : ℕ} (e : at ≡ 15 + 6 * h.arcs) (e' : end ≡ at + 4 * h.jumps) (a : AllByRecursion (Passes bytes) arcs_of) (b : AllByRecursion (Passes bytes) (jumps_of at)) where
     at_end : end ≡ 15 + 6 * number_at bytes 11 + 4 * number_at bytes 13

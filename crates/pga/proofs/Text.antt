@@ -4,9 +4,9 @@ use Rattle.std.specs.List.{range_with_len, flat_map}
 use Rattle.std.proofs.lemmas.List.{take_more, flat_map_more}
 use Rattle.std.proofs.lemmas.List.FromFn.{map-range_with_len_more}
 use Rattle.std.proofs.lemmas.Fmt.{decimal_digit, decimal_step, length-decimal-le}
-use Rattle.pga.specs.Writing.{Put}
+use Rattle.fields.specs.Putting.{Put}
 use Rattle.pga.specs.Listing.{next_number}
-use Rattle.pga.proofs.Putting.{put_then}
+use Rattle.fields.proofs.Putting.{put_then}
 
 pub short_decimal : (n : ℕ) → n < 2 ^ 64 → length (decimal n) ≤ 20
 short_decimal n h = length-decimal-le 20 n (omega arith) (omega arith) h
@@ -25,7 +25,8 @@ pub next_put : (ns : List ℕ) (i d : ℕ) (o p q s : List ℕ) (a b c e : ℕ) 
     → Put o a (flat_map next_number (take (i + 1) ns)) s e
 next_put ns i d o p q s a b c e h same same' x y z =
     subst (λ t. Put o a t s e) (flat_map_more next_number [] (take i ns) (get_or ns i d) ∙ ap (flat_map next_number) (sym (take_more ns i d h)))
-    (put_then o p s a b e (flat_map next_number (take i ns)) (next_number (get_or ns i d)) same x (put_then p q s b c e (32 ∷ []) (decimal (get_or ns i d)) same' y z))
+    (put_then o p s a b e (flat_map next_number (take i ns)) (next_number (get_or ns i d)) same x
+    (put_then p q s b c e (32 ∷ []) (decimal (get_or ns i d)) same' y z))
 
 -- a row is put after others
 pub row_put : {A : Type 0} (text : A → List ℕ) (f : ℕ → A) (k : ℕ) (o p q : List ℕ) (a b c : ℕ) → length p ≡ length o

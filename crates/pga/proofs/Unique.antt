@@ -1,40 +1,19 @@
 -- Bytes are the file of one acceptor, or have one first fault, and never both.
-use Rattle.std.proofs.Common.{◌≡◌, ℕ, ◌<◌, List, Ok, Err, Result, sym, refl, ◌∙◌, subst, arith}
+use Rattle.std.proofs.Common.{◌≡◌, ℕ, ◌<◌, List, Ok, Err, Result, sym, ◌∙◌, subst}
 use Rattle.std.specs.List.{AllByRecursion}
 use Rattle.std.proofs.lemmas.List.FromFn.{length-map-range_with_len}
-use Rattle.book.specs.declared.fault.Refusal.{Refusal}
 use Rattle.theory.specs.Flattening.{Acceptor}
-use Rattle.pga.specs.declared.fault.AcceptorFault.{AcceptorFault}
+use Rattle.fields.specs.declared.fault.AcceptorFault.{AcceptorFault}
+use Rattle.fields.specs.Reading.{number_at}
+use Rattle.fields.specs.Flaws.{Passes}
+use Rattle.fields.proofs.Faults.{first_not, first_one}
 use Rattle.pga.specs.declared.check.Header.{Header}
 use Rattle.pga.specs.Files.{Fit, IsFile}
-use Rattle.pga.specs.Reading.{number_at, decoded}
-use Rattle.pga.specs.Flaws.{Check, Passes, Fault, First, file_checks}
-use Rattle.pga.specs.Flaws.Fault.{early, wrong}
-use Rattle.pga.specs.Flaws.First.{here, later}
+use Rattle.pga.specs.Reading.{decoded}
+use Rattle.pga.specs.Flaws.{file_checks}
 use Rattle.pga.specs.Checks.{Headed, WholeJudged, header, Checked, OnlyChecked}
 use Rattle.pga.proofs.Decoding.{Framed, arc_of, jump_of, framed_file, file_framed, file_decoded}
 use Rattle.pga.proofs.Decided.{passes_framed, passes_fit, fit_passes}
-
-module _ {bytes : List ℕ} where
-  fault_not : {c : Check} {f : Refusal} → Passes bytes c → Fault bytes c f → ⊥
-  fault_not (p, r) (early l) = omega arith
-  fault_not (p, r) (wrong l w) = w r
-
-  fault_one : {c : Check} {f g : Refusal} → Fault bytes c f → Fault bytes c g → f ≡ g
-  fault_one (early l) (early m) = refl
-  fault_one (early l) (wrong m w) = absurd (omega arith)
-  fault_one (wrong l w) (early m) = absurd (omega arith)
-  fault_one (wrong l w) (wrong m v) = refl
-
-  pub first_not : {cs : List Check} {f : Refusal} → First bytes cs f → AllByRecursion (Passes bytes) cs → ⊥
-  first_not (here x) (p, a) = fault_not p x
-  first_not (later q x) (p, a) = first_not x a
-
-  pub first_one : {cs : List Check} {f g : Refusal} → First bytes cs f → First bytes cs g → f ≡ g
-  first_one (here x) (here y) = fault_one x y
-  first_one (here x) (later q y) = absurd (fault_not q x)
-  first_one (later q x) (here y) = absurd (fault_not q y)
-  first_one (later q x) (later r y) = first_one x y
 
 module _ (bytes : List ℕ) (small : AllByRecursion (λ b. b < 256) bytes) where
   -- a file passes all checks

@@ -1,14 +1,17 @@
 -- The parts of a file, put one after the other, are the file.
-use Rattle.std.proofs.Common.{◌≡◌, ℕ, ◌≤◌, List, ◌++◌, length, take, drop, codes, sym, refl, ap, ◌∙◌, subst, arith}
+use Rattle.std.proofs.Common.{◌≡◌, ℕ, ◌≤◌, List, ◌++◌, length, codes, sym, ap, ◌∙◌, subst, arith}
 use Rattle.std.specs.List.{flat_map}
-use Rattle.std.proofs.lemmas.List.{length-append, take_at}
+use Rattle.std.proofs.lemmas.List.{length-append}
 use Rattle.book.specs.Files.{bytes_of}
 use Rattle.theory.specs.Flattening.{Acceptor, file_length}
-use Rattle.pga.specs.Files.{arc_numbers, jump_numbers, header_numbers, file_of}
-use Rattle.pga.specs.Writing.{Put, FileWritten}
-use Rattle.pga.proofs.Lists.{joined_append}
-use Rattle.pga.proofs.Putting.{put_then}
-use Rattle.pga.proofs.Arcs.{arc_bytes, jump_bytes, length_arc_bytes, length_jump_bytes}
+use Rattle.fields.specs.Arcs.{arc_numbers}
+use Rattle.fields.specs.Putting.{Put}
+use Rattle.fields.proofs.Lists.{joined_append}
+use Rattle.fields.proofs.Putting.{put_parts, put_front}
+use Rattle.fields.proofs.Arcs.{arc_bytes, length_arc_bytes}
+use Rattle.pga.specs.Files.{jump_numbers, header_numbers, file_of}
+use Rattle.pga.specs.Writing.{FileWritten}
+use Rattle.pga.proofs.Arcs.{jump_bytes, length_jump_bytes}
 
 -- the bytes of a file, part by part
 pub file_parts : (a : Acceptor) → file_of a ≡ codes "PGA" ++ (flat_map bytes_of (header_numbers a) ++ (arc_bytes a.arcs ++ jump_bytes a.jumps))
@@ -24,26 +27,17 @@ length_file a =
     ap length (file_parts a)
     ∙ omega (arith, length-append (arc_bytes a.arcs) (jump_bytes a.jumps), length_arc_bytes a.arcs, length_jump_bytes a.jumps)
 
--- the mark
-pub put_mark : (out mark : List ℕ) → mark ≡ codes "PGA" → Put out 0 (codes "PGA") (mark ++ drop 3 out) 3
-put_mark out mark e = record { ends = refl; is = λ h. ap (λ l. l ++ drop 3 out) e }
-
 module _ (a : Acceptor) (header out o₁ o₂ o₃ o₄ : List ℕ) (e₂ e₃ e₄ : ℕ) where
   pub file_put : header ≡ header_numbers a → length o₁ ≡ length out → length o₂ ≡ length out → length o₃ ≡ length out
-      → Put out 0 (codes "PGA") o₁ 3 → Put o₁ 3 (flat_map bytes_of header) o₂ e₂ → Put o₂ e₂ (arc_bytes a.arcs) o₃ e₃ → Put o₃ e₃ (jump_bytes a.jumps) o₄ e₄
-      → Put out 0 (file_of a) o₄ e₄
+      → Put out 0 (codes "PGA") o₁ 3 → Put o₁ 3 (flat_map bytes_of header) o₂ e₂
+      → Put o₂ e₂ (arc_bytes a.arcs) o₃ e₃ → Put o₃ e₃ (jump_bytes a.jumps) o₄ e₄ → Put out 0 (file_of a) o₄ e₄
   file_put same l₁ l₂ l₃ p₁ p₂ p₃ p₄ =
-      let head = flat_map bytes_of (header_numbers a) in
-      let rest : Put o₁ 3 (head ++ (arc_bytes a.arcs ++ jump_bytes a.jumps)) o₄ e₄ =
-      put_then o₁ o₂ o₄ 3 e₂ e₄ head _ (l₂ ∙ sym l₁) (subst (λ h. Put o₁ 3 (flat_map bytes_of h) o₂ e₂) same p₂) (put_then o₂ o₃ o₄ e₂ e₃ e₄ (arc_bytes a.arcs) (jump_bytes a.jumps) (l₃ ∙ sym l₂) p₃ p₄) in
-      subst (λ t. Put out 0 t o₄ e₄) (sym (file_parts a)) (put_then out o₁ o₄ 0 3 e₄ (codes "PGA") _ l₁ p₁ rest)
+      subst (λ t. Put out 0 t o₄ e₄) (sym (file_parts a))
+      (put_parts out o₁ o₂ o₃ o₄ 0 3 e₂ e₃ e₄ (codes "PGA") (flat_map bytes_of (header_numbers a)) (arc_bytes a.arcs) (jump_bytes a.jumps)
+      l₁ l₂ l₃ p₁ (subst (λ h. Put o₁ 3 (flat_map bytes_of h) o₂ e₂) same p₂) p₃ p₄)
 
-pub file_written : (a : Acceptor) (out out' : List ℕ) (n : ℕ) → file_length a ≤ length out → Put out 0 (file_of a) out' n → FileWritten a out out' n
+pub file_written : (a : Acceptor) (out out' : List ℕ) (n : ℕ) → file_length a ≤ length out → Put out 0 (file_of a) out' n
+    → FileWritten a out out' n
 file_written a out out' n room p =
-    let used : n ≡ file_length a = p.ends ∙ omega (arith, length_file a) in
-    let that : out' ≡ file_of a ++ drop n out = p.is (omega arith) in
-    record {
-      length_used = used;
-      is = that;
-      is_file = λ f. record { fit = f; is = ap (take n) that ∙ take_at (file_of a) (drop n out) n (length_file a ∙ sym used) };
-    }
+    let f = put_front (file_of a) out out' n (omega (arith, length_file a)) p in
+    record { length_used = f.used ∙ length_file a; is = f.is; is_file = λ fit. record { fit = fit; is = f.front } }

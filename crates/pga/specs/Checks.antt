@@ -1,29 +1,16 @@
 -- What the check of a file answers.
-use Rattle.std.specs.Prelude.{◌≡◌, ℕ, ◌+◌, ◌*◌, List, length, Ok, Err, Result}
+use Rattle.std.specs.Prelude.{◌≡◌, ℕ, List, length, Ok, Err, Result}
 use Rattle.std.specs.List.{AllByRecursion}
 use Rattle.book.specs.declared.fault.Refusal.{Refusal}
 use Rattle.theory.specs.Flattening.{Acceptor}
-use Rattle.pga.specs.declared.fault.AcceptorFault.{AcceptorFault}
+use Rattle.fields.specs.declared.fault.AcceptorFault.{AcceptorFault}
+use Rattle.fields.specs.Reading.{number_at}
+use Rattle.fields.specs.Refusals.{refusal}
+use Rattle.fields.specs.Flaws.{Passes, First}
 use Rattle.pga.specs.declared.check.Header.{Header}
 use Rattle.pga.specs.Files.{IsFile}
-use Rattle.pga.specs.Reading.{number_at, decoded}
-use Rattle.pga.specs.Refusals.{refusal}
-use Rattle.pga.specs.Flaws.{Check, ranged, Passes, Fault, First, rows, header_checks, file_checks, FileFault}
-
--- these checks pass, or this is the first fault among them
-abbrev pub Judged : {T : Type 0} → List ℕ → List Check → Result T AcceptorFault → Type 0
-Judged bytes cs (Ok v) = AllByRecursion (Passes bytes) cs
-Judged bytes cs (Err f) = First bytes cs (refusal f)
-
--- the number at `at`, in its range, or its fault
-abbrev pub NumberJudged : List ℕ → ℕ → ℕ → ℕ → Result ℕ AcceptorFault → Type 0
-NumberJudged bytes at least limit (Ok v) = Passes bytes (ranged at least limit) × (v ≡ number_at bytes at)
-NumberJudged bytes at least limit (Err f) = Fault bytes (ranged at least limit) (refusal f)
-
--- so many rows pass, and `end` is the place after them, or this is the first fault among them
-abbrev pub RowsJudged : List ℕ → ℕ → List ℕ → ℕ → Result ℕ AcceptorFault → Type 0
-RowsJudged bytes start limits count (Ok end) = AllByRecursion (Passes bytes) (rows start limits count) × (end ≡ start + 2 * length limits * count)
-RowsJudged bytes start limits count (Err f) = First bytes (rows start limits count) (refusal f)
+use Rattle.pga.specs.Reading.{decoded}
+use Rattle.pga.specs.Flaws.{header_checks, file_checks, FileFault}
 
 -- the header's checks pass, and these are its numbers
 pub record Headed (bytes : List ℕ) (h : Header) : Type 0 where

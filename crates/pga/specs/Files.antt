@@ -8,10 +8,8 @@ use Rattle.book.specs.Files.{bytes_of}
 use Rattle.table.specs.Lists.{InOrder}
 use Rattle.finding.specs.Numbered.{Arrow}
 use Rattle.finding.specs.Laws.{Rises}
+use Rattle.fields.specs.Arcs.{arc_numbers, ArcWithin}
 use Rattle.theory.specs.Flattening.{Acceptor, JumpLess}
-
-abbrev pub arc_numbers : Arrow → List ℕ
-arc_numbers m = m.0 ∷ (m.1 ∷ (m.2 ∷ []))
 
 abbrev pub jump_numbers : ℕ × ℕ → List ℕ
 jump_numbers j = j.0 ∷ (j.1 ∷ [])
@@ -29,7 +27,7 @@ abbrev pub file_of : Acceptor → List ℕ
 file_of a = codes "PGA" ++ flat_map bytes_of (file_numbers a)
 
 abbrev pub ArcFits : Acceptor → Arrow → Type 0
-ArcFits a m = (m.0 < a.nodes) × (m.1 < a.words) × (m.2 < a.nodes)
+ArcFits a = ArcWithin a.words a.nodes
 
 abbrev pub JumpFits : Acceptor → ℕ × ℕ → Type 0
 JumpFits a j = (j.0 < a.nodes) × (j.1 < a.nodes)

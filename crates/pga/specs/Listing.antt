@@ -6,10 +6,12 @@ use Rattle.std.specs.List.{flat_map}
 use Rattle.book.specs.declared.fault.Refusal.{Refusal}
 use Rattle.finding.specs.Numbered.{Arrow}
 use Rattle.theory.specs.Flattening.{Acceptor}
+use Rattle.fields.specs.Arcs.{arc_numbers}
+use Rattle.fields.specs.Refusals.{told}
 use Rattle.pga.specs.declared.fault.ListFault.{ListFault}
 use Rattle.pga.specs.declared.listing.Counts.{Counts}
-use Rattle.pga.specs.Files.{arc_numbers, jump_numbers, IsFile}
-use Rattle.pga.specs.Refusals.{told, list_refusal}
+use Rattle.pga.specs.Files.{jump_numbers, IsFile}
+use Rattle.pga.specs.Refusals.{list_refusal}
 use Rattle.pga.specs.Flaws.{FileFault}
 
 -- a blank and a number

@@ -1,24 +1,12 @@
--- Reading a file: its numbers, and the acceptor that they describe.
-use Rattle.std.specs.Prelude.{ℕ, ◌+◌, ◌*◌, List, map, slice_index}
+-- Reading a file: the acceptor that its numbers describe.
+use Rattle.std.specs.Prelude.{ℕ, ◌+◌, ◌*◌, List, map}
 use Rattle.std.specs.List.{range_with_len}
-use Rattle.finding.specs.Numbered.{Arrow}
+use Rattle.fields.specs.Reading.{number_at, arcs_from}
 use Rattle.theory.specs.Flattening.{Acceptor}
-
--- the number in the two bytes at `at`, the low one first
-abbrev pub number_at : List ℕ → ℕ → ℕ
-number_at bytes at = slice_index bytes at + 256 * slice_index bytes (at + 1)
-
--- the arc at `at`
-abbrev pub arc_in : List ℕ → ℕ → Arrow
-arc_in bytes at = (number_at bytes at, number_at bytes (at + 2), number_at bytes (at + 4))
 
 -- the jump at `at`
 abbrev pub jump_in : List ℕ → ℕ → ℕ × ℕ
 jump_in bytes at = (number_at bytes at, number_at bytes (at + 2))
-
--- the first n arcs from `start` on
-abbrev pub arcs_from : List ℕ → ℕ → ℕ → List Arrow
-arcs_from bytes start n = map (λ k. arc_in bytes (start + 6 * k)) (range_with_len 0 n)
 
 -- the first n jumps from `start` on
 abbrev pub jumps_from : List ℕ → ℕ → ℕ → List (ℕ × ℕ)

@@ -1,28 +1,10 @@
-//! The faults of acceptor files.
+//! Why a file is not listed.
 ghost use Rattle.std.specs.Prelude.{◌≡◌};
 ghost use Rattle.pga.specs.declared.fault.ListFault.TheVariants.{File};
-ghost use Rattle.pga.specs.Refusals.{refusal as refusal_of, list_refusal};
+ghost use Rattle.pga.specs.Refusals.{list_refusal};
 
 use book::Refusal;
-
-/// The bytes are no acceptor's file: the first fault is at this place.
-#[derive(Clone, Copy, PartialEq, Eq, Debug)]
-pub struct AcceptorFault {
-    pub place: usize,
-}
-
-impl AcceptorFault {
-    /// The number, layer and place of the fault.
-    pub fn refusal(self) -> Refusal
-        ensures { result ≡ refusal_of self }
-    {
-        Refusal {
-            number: 17,
-            layer: 5,
-            place: self.place,
-        }
-    }
-}
+use fields::fault::AcceptorFault;
 
 /// Why a file was not listed.
 #[derive(Clone, Copy, PartialEq, Eq, Debug)]

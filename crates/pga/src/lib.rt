@@ -5,5 +5,4 @@ pub mod check;
 pub mod fault;
 mod format;
 pub mod listing;
-mod output;
 pub mod writer;

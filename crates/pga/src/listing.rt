@@ -1,15 +1,18 @@
 //! The text of an acceptor: counts, arcs and jumps, a line each.
 ghost use Rattle.std.specs.Prelude.{◌≡◌, ◌+◌, ◌*◌, ◌^◌, ◌<◌, ◌≤◌, [], ◌∷◌, length, Ok, decimal};
 ghost use Rattle.std.specs.List.{flat_map};
-ghost use Rattle.pga.specs.Reading.{arcs_from, jumps_from, decoded};
+ghost use Rattle.fields.specs.Reading.{arcs_from};
+ghost use Rattle.fields.specs.Putting.{Put};
+ghost use Rattle.pga.specs.Reading.{jumps_from, decoded};
 ghost use Rattle.pga.specs.Checks.{Checked};
-ghost use Rattle.pga.specs.Writing.{Put};
 ghost use Rattle.pga.specs.Listing.{line, arc_line, jump_line, lines, Listed};
 
-use super::check::{Header, check_file, number_at};
+use super::check::{Header, check_file};
 use super::fault::ListFault;
-use super::format::{ARC_SIZE, ARCS_AT, JUMP_SIZE};
-use super::output::put_byte;
+use super::format::{ARCS_AT, JUMP_SIZE};
+use fields::check::number_at;
+use fields::format::ARC_SIZE;
+use fields::output::put_byte;
 
 /// What a compile counts: states, moves, nodes, unfolded moves, arcs and jumps.
 #[derive(Clone, Copy, PartialEq, Eq, Debug)]

@@ -1,22 +1,22 @@
 //! Writing the file of an acceptor.
-ghost use Rattle.std.specs.Prelude.{◌≡◌, ◌+◌, ◌*◌, ◌^◌, ◌<◌, ◌≤◌, [], ◌∷◌, length, codes};
+ghost use Rattle.std.specs.Prelude.{◌≡◌, ◌+◌, ◌*◌, ◌^◌, ◌<◌, ◌≤◌, [], ◌∷◌, length};
 ghost use Rattle.std.specs.List.{flat_map};
 ghost use Rattle.book.specs.Files.{bytes_of};
 ghost use Rattle.theory.specs.Flattening.{word_moves};
-ghost use Rattle.pga.specs.Files.{arc_numbers, jump_numbers};
-ghost use Rattle.pga.specs.Writing.{Put, arrows, pairs, acceptor, Written};
+ghost use Rattle.flattening.specs.Walks.{arrows};
+ghost use Rattle.fields.specs.Arcs.{arc_numbers};
+ghost use Rattle.fields.specs.Putting.{Put};
+ghost use Rattle.pga.specs.Files.{jump_numbers};
+ghost use Rattle.pga.specs.Writing.{pairs, acceptor, Written};
 
-use super::format::{ARC_SIZE, ARCS_AT, JUMP_SIZE, MARK, VERSION};
-use super::output::put_numbers;
+use super::format::{ARCS_AT, JUMP_SIZE, MARK};
+use fields::fault::OutputShort;
+use fields::format::{ARC_SIZE, VERSION};
+use fields::output::put_numbers;
 use finding::moves::Move;
+use flattening::flat::count_arcs;
 use flattening::jump::Jump;
 use table::numbers::NodeNo;
-
-/// The output is too short: so many bytes are needed.
-#[derive(Clone, Copy, PartialEq, Eq, Debug)]
-pub struct OutputShort {
-    pub needed: usize,
-}
 
 /// What an acceptor is written from: how many words and nodes there are, the final node, the unfolded moves, of which
 /// those on words are the arcs, and the jumps.
@@ -27,19 +27,6 @@ pub struct Parts<'a> {
     pub final_node: NodeNo,
     pub moves: &'a [Move<NodeNo>],
     pub jumps: &'a [Jump],
-}
-
-/// How many of the moves are on words.
-fn count_arcs(words: u16, moves: &[Move<NodeNo>]) -> usize
-    ensures { result ≡ length (word_moves words (arrows moves.now)) }
-{
-    let mut arcs = 0;
-    for m in moves {
-        if m.symbol < words {
-            arcs += 1;
-        }
-    }
-    arcs
 }
 
 /// Puts the moves on words as arcs; the place after them.
@@ -71,7 +58,8 @@ fn put_jumps(out: &mut [u8], at: usize, jumps: &[Jump]) -> usize
 /// The numbers in front of the arcs.
 fn header_of(parts: Parts, arcs: usize) -> [u16; 6]
     requires { (arcs ≤ 16384) × (length parts.jumps.now ≤ 16384) }
-    ensures { result ≡ 1 ∷ (parts.entry.words ∷ (parts.entry.nodes ∷ (parts.entry.final_node.0 ∷ (arcs ∷ (length parts.entry.jumps.now ∷ []))))) }
+    ensures { result
+        ≡ 1 ∷ (parts.entry.words ∷ (parts.entry.nodes ∷ (parts.entry.final_node.0 ∷ (arcs ∷ (length parts.entry.jumps.now ∷ []))))) }
 {
     [
         VERSION,
@@ -86,9 +74,11 @@ fn header_of(parts: Parts, arcs: usize) -> [u16; 6]
 /// Writes the file of an acceptor; the length used.
 pub fn write(parts: Parts, out: &mut [u8]) -> Result<usize, OutputShort>
     requires { (length parts.moves.now ≤ 16384) × (length parts.jumps.now ≤ 16384) }
-    ensures { Written (acceptor parts.entry.words parts.entry.nodes parts.entry.final_node parts.entry.moves.now parts.entry.jumps.now) out.old result out.new }
+    ensures { Written
+        (acceptor parts.entry.words parts.entry.nodes parts.entry.final_node parts.entry.moves.now parts.entry.jumps.now)
+        out.old result out.new }
 {
-    let arcs = count_arcs(parts.words, parts.moves);
+    let arcs = count_arcs(parts.moves, parts.words as usize);
     let needed = ARCS_AT + ARC_SIZE * arcs + JUMP_SIZE * parts.jumps.len();
     if out.len() < needed {
         return Err(OutputShort { needed });

@@ -1,4 +1,5 @@
 pub mod Lasts
 pub mod Pairs
-pub mod Pairing
 pub mod Recent
+pub mod Rooms
+pub mod Pairing

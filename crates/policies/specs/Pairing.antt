@@ -1,19 +1,19 @@
 -- What both takes: pairs of classes, and their halves below.
-use Rattle.std.specs.Prelude.{◌≡◌, ℕ, ◌≤◌, List, [], ◌∷◌, ◌++◌, map, length, Some, None, Option, refl}
-use Rattle.std.proofs.Common.{sym, ap, subst, ◌∙◌, arith}
+use Rattle.std.proofs.Common.{◌≡◌, ℕ, ◌≤◌, List, [], ◌∷◌, ◌++◌, map, length, Some, None, Option, sym, refl, ap, ◌∙◌, subst, arith}
 use Rattle.std.proofs.lemmas.List.{length-map, map_push}
 use Rattle.table.specs.Lists.{StandsAt, Lacks, Distinct}
 use Rattle.table.specs.declared.numbers.ClassNo.{ClassNo}
 use Rattle.table.proofs.Lists.{stands_below, stands_same, stands_is, stands_map, stands_unmap, distinct_one, distinct_push}
 use Rattle.theory.specs.Policies.{Class, left_class, right_class}
 use Rattle.theory.specs.Policies.Class.{states, pair}
-use Rattle.policy.specs.Classes.{Room, Taken, class_at, HasPlace}
+use Rattle.policy.specs.Classes.{Room, HasRoom, Taken, class_at, HasPlace}
 use Rattle.policy.specs.Classes.Taken.{old, new, unheld, no_place}
 use Rattle.policy.specs.Places.{Placed}
 use Rattle.policy.specs.Places.Placed.{old as p_old, new as p_new, full as p_full}
 use Rattle.policy.proofs.Tracking.{Step, refused, entry_at, place_is, no_place_is, same_classes, tracks_more, tracks_first}
 use Rattle.policies.specs.declared.both.Pair.{Pair}
 use Rattle.policies.specs.Pairs.{pair_of, first_number, second_number, pair_class, pair_classes, pair_room, Paired}
+use Rattle.policies.specs.Rooms.{PairFits, pair_fits, fits_pair}
 
 pair_same : (r : Pair) (a b : ℕ) → first_number r ≡ a → second_number r ≡ b → r ≡ pair_of a b
 pair_same r a b p q = ap (λ (x : ℕ). pair_of x (second_number r)) p ∙ ap (pair_of a) q
@@ -66,7 +66,7 @@ module _ (cs ds : List Class) (rs : List Pair) (p : Paired cs ds rs) where
 -- ── the pair after the one at hand ──
 
 -- a policy below: which class has a place, the class after, and the classes held
-pub record Below : Type 1 where
+pub record Below : Type 0 where
   pub room : Room
   pub onward : Class → Class
   pub held : List Class
@@ -113,34 +113,38 @@ module _ (P Q : Below) (rs : List Pair) (p : Paired P.held Q.held rs) (i : ℕ) 
     pub at_right : StandsAt ds (second_number r) d
     at_right = entry_at second_number ds rs p.right i r at
 
+    -- what it takes that the pair has a place
+    fits : HasRoom room held (pair (next_left c) (next_right d)) → PairFits P.room Q.room held (pair (next_left c) (next_right d))
+    fits = pair_fits P.room Q.room held (pair (next_left c) (next_right d))
+
     -- a half that does not fit
     pub left_refused : {cs' : List Class} → Taken P.room cs next_left (first_number r) None cs' → Taken room held onward i None held
     left_refused t =
         let (l, f, e) = refused P.room cs next_left (first_number r) P.distinct at_left t in
         no_place (pair c d) here (λ k s. let h = halves cs ds rs p k (next_left c) (next_right d) s in l (first_number h.row) h.left_at)
-        (λ m. no_place_is first_number cs rs p.left P.room l f (subst (λ (x : List Class). HasPlace P.room x (next_left c)) (left_classes cs ds rs) m.1))
+        (λ m. no_place_is first_number cs rs p.left P.room l f (subst (λ (x : List Class). HasPlace P.room x (next_left c)) (left_classes cs ds rs) (fits m).1))
 
     pub right_refused : {ds' : List Class} → Taken Q.room ds next_right (second_number r) None ds' → Taken room held onward i None held
     right_refused t =
         let (l, f, e) = refused Q.room ds next_right (second_number r) Q.distinct at_right t in
         no_place (pair c d) here (λ k s. let h = halves cs ds rs p k (next_left c) (next_right d) s in l (second_number h.row) h.right_at)
-        (λ m. no_place_is second_number ds rs p.right Q.room l f (subst (λ (x : List Class). HasPlace Q.room x (next_right d)) (right_classes cs ds rs) m.2))
+        (λ m. no_place_is second_number ds rs p.right Q.room l f (subst (λ (x : List Class). HasPlace Q.room x (next_right d)) (right_classes cs ds rs) (fits m).2))
 
     -- the pair is new and has a place
     abbrev pub Fresh : Type 0
-    Fresh = Lacks held (pair (next_left c) (next_right d)) × room held (pair (next_left c) (next_right d))
+    Fresh = Lacks held (pair (next_left c) (next_right d)) × HasRoom room held (pair (next_left c) (next_right d))
 
     pub fresh : {j : ClassNo} {h : List Class} → Taken room held onward i (Some j) h → length held ≤ j.0 → Fresh
     fresh {j = j} (old x s t) b = let l = stands_below held j.0 (onward x) t in absurd (omega arith)
     fresh (new x s l f e) b =
         let q : onward x ≡ onward (pair c d) = ap onward (stands_same held i x (pair c d) s here) in
-        (subst (Lacks held) q l, subst (room held) q f)
+        (subst (Lacks held) q l, subst (HasRoom room held) q f)
 
     -- then the second half does not refuse
     pub right_fits : Fresh → {ds' : List Class} → Taken Q.room ds next_right (second_number r) None ds' → ⊥
     right_fits f t =
         let (l, n, e) = refused Q.room ds next_right (second_number r) Q.distinct at_right t in
-        no_place_is second_number ds rs p.right Q.room l n (subst (λ (x : List Class). HasPlace Q.room x (next_right d)) (right_classes cs ds rs) f.1.2)
+        no_place_is second_number ds rs p.right Q.room l n (subst (λ (x : List Class). HasPlace Q.room x (next_right d)) (right_classes cs ds rs) (fits f.1).2)
 
     module _ (a b : ClassNo) {cs' ds' : List Class} (s : Step P.room cs (next_left c) a.0 cs') (t : Step Q.room ds (next_right d) b.0 ds') where
       abbrev made : Pair
@@ -163,13 +167,13 @@ module _ (P Q : Below) (rs : List Pair) (p : Paired P.held Q.held rs) (i : ℕ) 
       fitting (p_old {j = j} u) = (_, old (pair c d) here (stands j.0 u))
       fitting (p_new e l f) =
           let n = pairs_length cs ds rs in
-          let free : room held (pair (next_left c) (next_right d)) = (
+          let free : PairFits P.room Q.room held (pair (next_left c) (next_right d)) = (
             omega arith,
             subst (λ (x : List Class). HasPlace P.room x (next_left c)) (sym (left_classes cs ds rs)) (place_is first_number cs rs p.left P.room s.fits),
             subst (λ (x : List Class). HasPlace Q.room x (next_right d)) (sym (right_classes cs ds rs)) (place_is second_number ds rs p.right Q.room t.fits),
           ) in
-          (_, new (pair c d) here (lacks l) free (e ∙ sym n))
-      fitting (p_full l f) = (_, no_place (pair c d) here (lacks l) (λ m. omega (arith, m.0, pairs_length cs ds rs)))
+          (_, new (pair c d) here (lacks l) (fits_pair P.room Q.room held (pair (next_left c) (next_right d)) free) (e ∙ sym n))
+      fitting (p_full l f) = (_, no_place (pair c d) here (lacks l) (λ m. omega (arith, (fits m).0, pairs_length cs ds rs)))
 
       -- the pairs held keep their classes as the halves are taken
       same_pairs : pair_classes cs' ds' rs ≡ held
@@ -199,7 +203,7 @@ module _ (P Q : Below) (rs : List Pair) (p : Paired P.held Q.held rs) (i : ℕ) 
         taken (p_new {j = j} e l h) =
             subst (Taken room held onward i (Some j)) (sym more_pairs)
             (new (pair c d) here f.0 f.1 (e ∙ sym (pairs_length cs ds rs)))
-        taken (p_full l h) = absurd (omega (arith, f.1.0, pairs_length cs ds rs))
+        taken (p_full l h) = absurd (omega (arith, (fits f.1).0, pairs_length cs ds rs))
 
         pub paired : {no : Option ClassNo} {rs' : List Pair} → Placed rs made no rs' → Paired cs' ds' rs'
         paired (p_old {j = j} u) = absurd (f.0 j.0 (stands j.0 u))
@@ -209,7 +213,7 @@ module _ (P Q : Below) (rs : List Pair) (p : Paired P.held Q.held rs) (i : ℕ) 
               right = tracks_more second_number ds rs p.right t made refl;
               distinct = distinct_push rs made p.distinct l;
             }
-        paired (p_full l h) = absurd (omega (arith, f.1.0, pairs_length cs ds rs))
+        paired (p_full l h) = absurd (omega (arith, (fits f.1).0, pairs_length cs ds rs))
 
 -- the empty stack's pair
 paired_first : (c d : Class) → Paired (c ∷ []) (d ∷ []) (pair_of 0 0 ∷ [])

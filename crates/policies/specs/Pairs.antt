@@ -1,10 +1,12 @@
 -- Pairs of classes by pairs of numbers.
-use Rattle.std.specs.Prelude.{ℕ, ◌<◌, List, map, length}
+use Rattle.std.specs.Prelude.{ℕ, Bool, true, false, List, [], ◌∷◌, ◌++◌, map, length, nat_lt}
 use Rattle.table.specs.Lists.{Distinct}
 use Rattle.finding.specs.Numbered.{Arrow}
+use Rattle.theory.specs.Executable.{same_class}
+use Rattle.theory.specs.Lists.{and, or, any}
 use Rattle.theory.specs.Policies.{Class, Meaning, left_class, right_class, both, Finer}
 use Rattle.theory.specs.Policies.Class.{pair}
-use Rattle.policy.specs.Classes.{Room, class_at, Tracks, HasPlace}
+use Rattle.policy.specs.Classes.{Room, class_at, Tracks}
 use Rattle.policies.specs.declared.both.Pair.{Pair}
 
 abbrev pub pair_of : ℕ → ℕ → Pair
@@ -24,10 +26,19 @@ pair_class cs ds r = pair (class_at cs (first_number r)) (class_at ds (second_nu
 abbrev pub pair_classes : List Class → List Class → List Pair → List Class
 pair_classes cs ds rs = map (pair_class cs ds) rs
 
+-- the classes of a list that were not seen before, each where it first stands
+abbrev pub first_classes : List Class → List Class → List Class
+first_classes seen [] = []
+first_classes seen (c ∷ cs) = elim (any (same_class c) seen) [ true ↦ first_classes seen cs | false ↦ c ∷ first_classes (seen ++ (c ∷ [])) cs ]
+
+-- whether c is held or has a place, where just the classes of some things are held, in the order of the things
+abbrev pub has_place : Room → List Class → Class → Bool
+has_place room classes c = or (any (same_class c) (first_classes [] classes)) (room (first_classes [] classes) c)
+
 -- a new pair has a place where one is free and each half is held below or has a place there
 abbrev pub pair_room : Room → Room → Room
 pair_room first second held c =
-    (length held < 4096) × HasPlace first (map left_class held) (left_class c) × HasPlace second (map right_class held) (right_class c)
+    and (nat_lt (length held) 4096) (and (has_place first (map left_class held) (left_class c)) (has_place second (map right_class held) (right_class c)))
 
 -- the pairs of numbers are distinct, and below just their halves are held
 pub record Paired (cs ds : List Class) (rs : List Pair) : Type 0 where

@@ -4,8 +4,9 @@
 ghost use Rattle.std.specs.Prelude.{◌≡◌, ℕ, ◌≤◌, [], ◌∷◌, length, take};
 ghost use Rattle.theory.specs.Policies.{both};
 ghost use Rattle.policy.specs.Places.{Fixed, Placed, Placeable, EntryAt};
-ghost use Rattle.policies.specs.Pairs.{pair_of, pair_classes, pair_room, Paired, FinerThanHalves};
+ghost use Rattle.policy.specs.Taking;
 ghost use Rattle.policies.specs.Pairing.{pairs_distinct};
+ghost use Rattle.policies.specs.Pairs.{pair_of, pair_classes, pair_room, Paired, FinerThanHalves};
 
 use policy::places;
 use policy::stacks::Policy;
@@ -113,6 +114,10 @@ impl<P: Policy, Q: Policy> Policy for Both<P, Q> {
     ghost distinct = { λ s r.
         pairs_distinct (P.Policy.held s.first) (Q.Policy.held s.second) (take s.pairs.len s.pairs.rows) r.2
         (P.Policy.distinct s.first r.0) (Q.Policy.distinct s.second r.1) };
+
+    ghost foretold = { λ s r. Taking.foretold _ _ (
+        pairs_distinct (P.Policy.held s.first) (Q.Policy.held s.second) (take s.pairs.len s.pairs.rows) r.2
+        (P.Policy.distinct s.first r.0) (Q.Policy.distinct s.second r.1)) };
 
     fn clear(&mut self) {
         self.first.clear();

@@ -4,8 +4,9 @@ ghost use Rattle.table.specs.Lists.{Distinct};
 ghost use Rattle.theory.specs.Policies.{last};
 ghost use Rattle.policy.specs.Classes.{free_place};
 ghost use Rattle.policy.specs.Places.{Fixed, Placed, Placeable, EntryAt};
-ghost use Rattle.policies.specs.Lasts.{depth_of, lefts, last_classes, last_class};
 ghost use Rattle.policy.proofs.Mapped.{map_distinct};
+ghost use Rattle.policy.specs.Taking;
+ghost use Rattle.policies.specs.Lasts.{depth_of, lefts, last_classes, last_class};
 ghost use Rattle.policies.specs.Recent.{one_entry};
 
 use policy::places;
@@ -166,6 +167,8 @@ impl Policy for Last {
     ghost ready = { λ s. Distinct (take s.entries.len s.entries.rows) };
 
     ghost distinct = { λ s r. map_distinct last_class one_entry (take s.entries.len s.entries.rows) r };
+
+    ghost foretold = { λ s r. Taking.foretold _ _ (map_distinct last_class one_entry (take s.entries.len s.entries.rows) r) };
 
     fn clear(&mut self) {
         self.entries.clear();

@@ -1,5 +1,4 @@
 pub mod Placing
-pub mod Taking
 pub mod Single
 pub mod Mapped
 pub mod Tracking

@@ -1,6 +1,7 @@
 -- What is taken where an entry stands for its class whatever else is held.
 use Rattle.std.proofs.Common.{◌≡◌, ℕ, ◌≤◌, List, [], ◌∷◌, ◌++◌, map, length, Some, None, Option, sym, ap, ◌∙◌, subst, arith}
 use Rattle.std.proofs.lemmas.List.{length-map, map_push}
+use Rattle.std.proofs.lemmas.Bool.{lt-ltb, ltb-true}
 use Rattle.table.specs.Lists.{StandsAt, Lacks, Distinct}
 use Rattle.table.specs.declared.numbers.ClassNo.{ClassNo}
 use Rattle.table.proofs.Lists.{stands_map, stands_unmap, distinct_push}
@@ -27,10 +28,10 @@ module _ {E : Type 0} (f : E → Class) (one : (x y : E) → f x ≡ f y → x �
   map_taken onward i a e s q (p_new {j = j} n l h) =
       let m = length-map es f in
       subst (Taken free_place (map f es) onward i (Some j)) (ap (λ (c : Class). map f es ++ (c ∷ [])) (sym q) ∙ sym (map_push f es e))
-      (new (f a) (stands_map f es i a s) (subst (Lacks (map f es)) q (lacks e l)) (omega arith) (n ∙ sym m))
+      (new (f a) (stands_map f es i a s) (subst (Lacks (map f es)) q (lacks e l)) (lt-ltb (length (map f es)) 4096 (omega arith)) (n ∙ sym m))
   map_taken onward i a e s q (p_full l h) =
       let m = length-map es f in
-      no_place (f a) (stands_map f es i a s) (subst (Lacks (map f es)) q (lacks e l)) (λ k. omega arith)
+      no_place (f a) (stands_map f es i a s) (subst (Lacks (map f es)) q (lacks e l)) (λ k. omega (arith, ltb-true (length (map f es)) 4096 k))
 
   pub map_past : (onward : Class → Class) (i : ℕ) → length es ≤ i → Taken free_place (map f es) onward i None (map f es)
   map_past onward i h = unheld (omega (arith, length-map es f))

@@ -12,7 +12,7 @@ use Rattle.finding.proofs.Unique.{firsts_same, firsts_mem}
 use Rattle.finding.proofs.Lawful.{firsts_old, firsts_new}
 use Rattle.theory.specs.Policies.{Class}
 use Rattle.theory.specs.Policies.Class.{states}
-use Rattle.policy.specs.Classes.{Room, Taken, class_at, Tracks, HasPlace}
+use Rattle.policy.specs.Classes.{Room, HasRoom, Taken, class_at, Tracks, HasPlace}
 use Rattle.policy.specs.Classes.Taken.{old, new, unheld, no_place}
 
 lacks_mem : {c : Class} (held : List Class) → Lacks held c → Memᴰ c held → ⊥
@@ -24,7 +24,7 @@ lacks_mem {c} held l m = let (k, s) = at_mem held c m in l k s
 pub record Step (room : Room) (cs : List Class) (d : Class) (a : ℕ) (cs' : List Class) : Type 0 where
   pub now_at : StandsAt cs' a d
   pub keeps : (k : ℕ) (x : Class) → StandsAt cs k x → StandsAt cs' k x
-  pub fits : Memᴰ d cs ⊎ room cs d
+  pub fits : Memᴰ d cs ⊎ HasRoom room cs d
   pub only : (k : ℕ) → StandsAt cs k d → k ≡ a
   pub was : a < length cs → StandsAt cs a d
   pub grown : (cs' ≡ cs) ⊎ ((a ≡ length cs) × Lacks cs d × (cs' ≡ cs ++ (d ∷ [])))
@@ -44,16 +44,16 @@ module _ (room : Room) (cs : List Class) (onward : Class → Class) (i : ℕ) (d
       record {
         now_at = subst (λ (k : ℕ). StandsAt (cs ++ (onward x ∷ [])) k (onward c)) (sym e) (subst (λ (l : List Class). StandsAt l (length cs) (onward c)) (sym g) (stands_last cs [] (onward c)));
         keeps = λ k y s. stands_left cs (onward x ∷ []) y k s;
-        fits = inr (subst (room cs) q f);
+        fits = inr (subst (HasRoom room cs) q f);
         only = λ k s. absurd (l' k s);
         was = λ h. absurd (omega arith);
         grown = inr (e, l', g);
       }
 
   -- where nothing is taken the class is not held and has no place
-  pub refused : {cs' : List Class} → Taken room cs onward i None cs' → Lacks cs (onward c) × (room cs (onward c) → ⊥) × (cs' ≡ cs)
+  pub refused : {cs' : List Class} → Taken room cs onward i None cs' → Lacks cs (onward c) × (HasRoom room cs (onward c) → ⊥) × (cs' ≡ cs)
   refused (unheld h) = let b = stands_below cs i c at in absurd (omega arith)
-  refused (no_place x s l f) = (subst (Lacks cs) (one_at s) l, (λ g. f (subst (room cs) (sym (one_at s)) g)), refl)
+  refused (no_place x s l f) = (subst (Lacks cs) (one_at s) l, (λ g. f (subst (HasRoom room cs) (sym (one_at s)) g)), refl)
 
 pub none_taken : {room : Room} {cs : List Class} {onward : Class → Class} {i : ℕ} {cs' : List Class} → Taken room cs onward i None cs' → Taken room cs onward i None cs
 none_taken (unheld h) = unheld h
@@ -85,13 +85,13 @@ module _ {E : Type 0} (number : E → ℕ) (held : List Class) (es : List E) (t 
   no_entry c l k s =
       ⊎_elim (λ z. Memᴰ.not-nil z) (lacks_mem held l) (firsts_mem t.firsts (mem_at (map (of held) es) k c s))
 
-  pub place_is : (room : Room) {c : Class} → Memᴰ c held ⊎ room held c → HasPlace room (map (of held) es) c
-  place_is room {c} h hs f = subst (λ (l : List Class). Memᴰ c l ⊎ room l c) (firsts_same t.firsts f) h
+  pub place_is : (room : Room) {c : Class} → Memᴰ c held ⊎ HasRoom room held c → HasPlace room (map (of held) es) c
+  place_is room {c} h hs f = subst (λ (l : List Class). Memᴰ c l ⊎ HasRoom room l c) (firsts_same t.firsts f) h
 
-  pub place_was : (room : Room) {c : Class} → HasPlace room (map (of held) es) c → Memᴰ c held ⊎ room held c
+  pub place_was : (room : Room) {c : Class} → HasPlace room (map (of held) es) c → Memᴰ c held ⊎ HasRoom room held c
   place_was room h = h held t.firsts
 
-  pub no_place_is : (room : Room) {c : Class} → Lacks held c → (room held c → ⊥) → HasPlace room (map (of held) es) c → ⊥
+  pub no_place_is : (room : Room) {c : Class} → Lacks held c → (HasRoom room held c → ⊥) → HasPlace room (map (of held) es) c → ⊥
   no_place_is room l n h = ⊎_elim (lacks_mem held l) n (h held t.firsts)
 
   module _ {room : Room} {d : Class} {a : ℕ} {held' : List Class} (s : Step room held d a held') where

@@ -3,3 +3,4 @@ pub mod Places
 pub mod Paths
 pub mod LinkTaking
 pub mod Linked
+pub mod Taking

@@ -2,6 +2,7 @@
 use Rattle.std.specs.Prelude.{◌≡◌, ℕ, zero, suc, ◌<◌, ◌≤◌, List, [], ◌∷◌, ◌++◌, map, length, Some, None, Option}
 use Rattle.std.proofs.Common.{sym, ap, subst, ◌∙◌, ⊎_elim, arith}
 use Rattle.std.proofs.Math.Option.{some}
+use Rattle.std.proofs.lemmas.Bool.{lt-ltb, ltb-true}
 use Rattle.std.proofs.lemmas.List.{length_push, length-map, same_from_push, map_push}
 use Rattle.table.specs.Lists.{StandsAt, Lacks, Distinct}
 use Rattle.table.specs.declared.numbers.ClassNo.{ClassNo}
@@ -90,8 +91,8 @@ module _ (ls : List Link) (c : Chained ls) (i t : ℕ) (ss : List ℕ) (at : Sta
     by_link (p_old {j = j} s) = old (states ss) here (stands_map states (paths ls) j.0 (cut_after ss t) (subst (StandsAt (paths ls) j.0) (sym ahead) (list_there j.0 s)))
     by_link (p_new {j = j} e l f) =
         subst (Taken free_place (path_classes ls) (onward t) i (Some j)) (sym more)
-        (new (states ss) here (lacks_class l) (omega (arith, classes_length ls)) (e ∙ sym (classes_length ls)))
-    by_link (p_full l f) = no_place (states ss) here (lacks_class l) (λ h. omega (arith, classes_length ls))
+        (new (states ss) here (lacks_class l) (lt-ltb (length (path_classes ls)) 4096 (omega (arith, classes_length ls))) (e ∙ sym (classes_length ls)))
+    by_link (p_full l f) = no_place (states ss) here (lacks_class l) (λ h. omega (arith, classes_length ls, ltb-true (length (path_classes ls)) 4096 h))
 
     simple_more : (k : ℕ) (us : List ℕ) → StandsAt (paths ls ++ ((ss ++ (t ∷ [])) ∷ [])) k us → Distinct us
     simple_more k us s =

@@ -3,6 +3,8 @@ ghost use Rattle.std.specs.Prelude.{[], ◌∷◌};
 ghost use Rattle.theory.specs.Policies.{one_class};
 ghost use Rattle.theory.specs.Policies.Class.{states};
 ghost use Rattle.policy.specs.Classes.{no_room};
+ghost use Rattle.table.proofs.Lists.{distinct_one};
+ghost use Rattle.policy.specs.Taking;
 ghost use Rattle.std.proofs.Common.{rules};
 
 use crate::stacks::Policy;
@@ -26,6 +28,8 @@ impl Policy for OneClass {
     ghost ready = { λ _. Unit {0} };
 
     ghost distinct = { Prim.search rules };
+
+    ghost foretold = { λ s r. Taking.foretold _ _ (distinct_one (states [])) };
 
     fn clear(&mut self) {}
 

@@ -5,8 +5,9 @@ ghost use Rattle.std.specs.Prelude.{◌≡◌, ℕ, ◌<◌, ◌≤◌, [], ◌�
 ghost use Rattle.policy.specs.Places.{Fixed, Placed, Placeable};
 ghost use Rattle.theory.specs.Policies.{path};
 ghost use Rattle.policy.specs.Classes.{free_place};
-ghost use Rattle.policy.specs.Paths.{paths, path_classes, Chained, Met};
 ghost use Rattle.policy.specs.LinkTaking.{classes_distinct};
+ghost use Rattle.policy.specs.Taking;
+ghost use Rattle.policy.specs.Paths.{paths, path_classes, Chained, Met};
 
 use crate::places;
 use crate::stacks::Policy;
@@ -119,6 +120,8 @@ impl Policy for Path {
     ghost ready = { λ s. Chained (take s.links.len s.links.rows) };
 
     ghost distinct = { λ s r. classes_distinct (take s.links.len s.links.rows) r };
+
+    ghost foretold = { λ s r. Taking.foretold _ _ (classes_distinct (take s.links.len s.links.rows) r) };
 
     fn clear(&mut self) {
         self.links.clear();

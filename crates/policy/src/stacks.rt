@@ -2,7 +2,7 @@
 ghost use Rattle.std.specs.Prelude.{◌≡◌, List, [], ◌∷◌};
 ghost use Rattle.table.specs.Lists.{Distinct};
 ghost use Rattle.theory.specs.Policies.{Class, Meaning};
-ghost use Rattle.policy.specs.Classes.{Room, pushed, Taken, Fitting};
+ghost use Rattle.policy.specs.Classes.{Room, pushed, Taken, Fitting, Foretold};
 
 use table::numbers::{ClassNo, StateNo};
 
@@ -52,4 +52,7 @@ pub trait Policy {
 
     /// no class has two numbers
     ghost distinct: { (s : Self) → ready s → Distinct (held s) };
+
+    /// `fits` foretells `next`, which changes nothing where it gives none
+    ghost foretold: { (s : Self) → ready s → Foretold (room (kind s)) (held s) };
 }

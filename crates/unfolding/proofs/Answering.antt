@@ -12,7 +12,6 @@ use Rattle.finding.specs.Laws.{Along}
 use Rattle.finding.specs.Laws.Along.{here, on}
 use Rattle.finding.specs.Numbered.{Arrow, upto}
 use Rattle.finding.specs.Spaces.{Answered}
-use Rattle.finding.proofs.Bounds.{whole_fits}
 use Rattle.theory.specs.Policies.{Class, Meaning, Stacked}
 use Rattle.theory.specs.Policies.Stacked.{empty, push}
 use Rattle.theory.specs.Unfolding.{Node as MeantNode, node, onward, StackOf}
@@ -67,11 +66,10 @@ module _ (m : Meaning) (room : Room) (ms : List Arrow) (symbols : ℕ) (nodes ar
   module _ (c : Count) (a : Answered (limits m room ms symbols nodes arrows) (first_node m) (node_of held) plain_number rows unfolded (Ok c)) (n-in : c.entries ≤ length rows) (m-in : c.moves ≤ length unfolded) where
     counts : (c.entries ≤ min nodes 4096) × (c.moves ≤ min arrows 16384)
     unfolding limits
-    counts =
-        let w = whole_fits (limits m room ms symbols nodes arrows) (first_node m) _ _ a.found in (
-          omega (arith, w.0, length-map (take c.entries rows) (node_of held), length-take-le c.entries rows n-in),
-          omega (arith, w.1, length-map (take c.moves unfolded) (arrow plain_number), length-take-le c.moves unfolded m-in),
-        )
+    counts = (
+      omega (arith, a.fits.few, length-map (take c.entries rows) (node_of held), length-take-le c.entries rows n-in),
+      omega (arith, a.fits.few_moves, length-map (take c.moves unfolded) (arrow plain_number), length-take-le c.moves unfolded m-in),
+    )
 
     stacks : (p : ℕ) → p < c.entries → StackOf m ms (nodes_of held (take c.entries rows)) p
     unfolding limits
@@ -89,7 +87,7 @@ module _ (m : Meaning) (room : Room) (ms : List Arrow) (symbols : ℕ) (nodes ar
         record {
           nodes_fit = subst (λ (k : ℕ). c.entries ≤ min k 4096) (sym long) counts.0;
           moves_fit = subst (λ (k : ℕ). c.moves ≤ min k 16384) (sym wide) counts.1;
-          unfolded = a.numbered;
+          unfolded = a.fits.numbered;
           placed = rw (long, wide) a.found;
           classes = t;
           stacks = stacks;

@@ -3,18 +3,19 @@ use Rattle.std.proofs.lemmas.Result.{err_from_is_err_and}
 use Rattle.book.proofs.Held.{known}
 use Rattle.machine.specs.Machines.MachineRefusal.{book as bad_book}
 use Rattle.compiler.specs.Compiling.CompileRefusal.{machine}
+use Rattle.compiler.proofs.Accepting.{turned_down}
 use Rattle.compiler.proofs.Assembling.{words_is, ordered, built, sizes, as_machine, node_count, opened_part, part_count, part_short, part_few, part_pairs, to_flatten, refuses_nodes, refuses_machine, refuses_jumps, refuses_output, compiles}
 use Rattle.compiler.proofs.compile.compile_book.Goals as goal
 
 pub returns-in_err-summary : goal.returns-in_err-summary
 returns-in_err-summary g c =
     let p = err_from_is_err_and c.from_residual.result c.from_residual.ensures.1 in
-    rw (p.1, p.2) (machine (bad_book c.in_err-summary.ensures.checked), refl)
+    rw (p.1, p.2) (turned_down (machine (bad_book c.in_err-summary.ensures.checked)) refl)
 
 pub returns-in_err-machine : goal.returns-in_err-machine
 returns-in_err-machine g c =
     let p = err_from_is_err_and c.from_residual-in_err-machine.result c.from_residual-in_err-machine.ensures.1 in
-    rw p.1 (refuses_machine _ _ _ _ c.in_err-machine.field-0.0 p.0 p.2 c.in_err-machine.ensures, refl)
+    rw p.1 (turned_down (refuses_machine _ _ _ _ c.in_err-machine.field-0.0 p.0 p.2 c.in_err-machine.ensures) refl)
 
 pub unfold-requires : goal.unfold-requires
 unfold-requires g c = ordered (known _ _ c.in_ok-summary.ensures.checked) c.in_ok-machine.ensures
@@ -22,11 +23,9 @@ unfold-requires g c = ordered (known _ _ c.in_ok-summary.ensures.checked) c.in_o
 pub returns-in_err-found : goal.returns-in_err-found
 returns-in_err-found g c =
     let p = err_from_is_err_and c.from_residual-in_err-found.result c.from_residual-in_err-found.ensures.1 in
-    rw (p.1, p.2) (
-      refuses_nodes (known _ _ c.in_ok-summary.ensures.checked) c.in_ok-machine.ensures _ _ _ c.characteristic.auto.states c.characteristic.auto.moves _
-          c.in_err-found.ensures.unfolds,
-      refl,
-    )
+    rw (p.1, p.2)
+    (turned_down (refuses_nodes (known _ _ c.in_ok-summary.ensures.checked) c.in_ok-machine.ensures _ _ _ c.characteristic.auto.states c.characteristic.auto.moves _
+    c.in_err-found.ensures.unfolds) refl)
 
 pub jumps-requires : goal.jumps-requires
 jumps-requires g c =
@@ -44,7 +43,7 @@ returns-in_err-jump_count g c =
     let un = to_flatten k mi u c.of-items.result c.of-items.ensures.words c.of-items.ensures.indexed in
     let b = built k mi _ c.characteristic.auto.states c.characteristic.auto.moves in
     let o = opened_part k mi u _ c.unfold.auto.nodes c.unfold.auto.unfolded in
-    rw (p.1, p.2) (refuses_jumps b o _ _ (c.in_err-jump_count.ensures un), refl)
+    rw (p.1, p.2) (turned_down (refuses_jumps b o _ _ (c.in_err-jump_count.ensures un)) refl)
 
 pub final_node-last-requires : goal.final_node-last-requires
 final_node-last-requires g c =
@@ -83,11 +82,9 @@ returns-in_err-write g c =
     let o = opened_part k mi u _ c.unfold.auto.nodes c.unfold.auto.unfolded in
     let j = c.in_ok-jump_count.ensures un in
     let w = c.in_err-write.ensures in
-    rw (p.1, p.2) (
-      refuses_output _ b o c.final_node-last.result (c.final_node-last.ensures un) j.all j.of (omega (arith, j.answer.0, j.answer.1))
-          _ _ _ (words_is k mi) (node_count k mi u) (part_pairs c.jumps.new.rows _ j.all j.answer.2) _ refl _ w.0 w.1,
-      w.2,
-    )
+    rw (p.1, p.2)
+    (turned_down (refuses_output _ b o c.final_node-last.result (c.final_node-last.ensures un) j.all j.of (omega (arith, j.answer.0, j.answer.1))
+    _ _ _ (words_is k mi) (node_count k mi u) (part_pairs c.jumps.new.rows _ j.all j.answer.2) _ refl _ w.0 w.1) w.2)
 
 pub returns : goal.returns
 unfolding to_flatten

@@ -1,5 +1,5 @@
 use Rattle.std.proofs.lemmas.Result.{err_from_is_err_and}
-use Rattle.pga.proofs.Judging.{first_left}
+use Rattle.fields.proofs.Judging.{first_left}
 use Rattle.pga.proofs.Parts.{arcs_fault, jumps_fault, end_fault, whole_passes}
 use Rattle.pga.proofs.check.check_parts.Goals as goal
 
@@ -28,5 +28,7 @@ returns-then-file-end c =
 pub returns : goal.returns
 returns c =
     let arcs = c.in_ok-jumps_at.ensures in
-    let jumps = c.in_ok-end.ensures in
-    (whole_passes c.args.file.now _ c.in_ok-header.ensures arcs.1 jumps.1 arcs.0 jumps.0 c.if-file-end.false, c.in_ok-header.ensures)
+    let jumps = c.in_ok-end.ensures in (
+      whole_passes c.args.file.now _ c.in_ok-header.ensures arcs.1 jumps.1 arcs.0 jumps.0 c.if-file-end.false,
+      c.in_ok-header.ensures,
+    )

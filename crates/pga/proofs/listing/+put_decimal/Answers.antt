@@ -9,6 +9,7 @@ returns-then-number-lt10 t c =
 pub returns : goal.returns
 returns t c =
     let n = c.args.number in
-    let p = digits_put n c.args.out.now c.put_decimal-end.new.out c.put_byte-2.new.out c.args.at _ _ (omega arith) (omega arith) (omega arith)
+    let p = digits_put n c.args.out.now c.put_decimal-end.new.out c.put_byte-2.new.out c.args.at _ _
+    (omega arith) (omega arith) (omega arith)
     c.put_decimal-end.ensures.put c.put_byte-2.ensures in
     record { put = p; short = omega (arith, p.ends, short_decimal n (omega arith)) }

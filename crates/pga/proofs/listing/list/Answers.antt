@@ -10,8 +10,11 @@ returns-in_err-header c =
     rw (p.1, p.2) (no_file c.in_err-header.ensures.checked, refl)
 
 pub returns-then-out-needed : goal.returns-then-out-needed
-returns-then-out-needed c =
-    (text_short c.args.counts c.args.file.now _ _ c.in_ok-header.ensures.checked.0 (c.put_text-needed.ensures.ends ∙ omega arith) c.if-out-needed.true, refl)
+returns-then-out-needed c = (
+  text_short c.args.counts c.args.file.now _ _ c.in_ok-header.ensures.checked.0
+      (c.put_text-needed.ensures.ends ∙ omega arith) c.if-out-needed.true,
+  refl,
+)
 
 pub returns : goal.returns
 returns c =

@@ -1,7 +1,7 @@
 use Rattle.std.proofs.Common.{◌+◌, ◌*◌, ◌≤◌}
 use Rattle.std.specs.List.{flat_map}
-use Rattle.pga.specs.Reading.{arcs_from}
-use Rattle.pga.specs.Writing.{Put}
+use Rattle.fields.specs.Reading.{arcs_from}
+use Rattle.fields.specs.Putting.{Put}
 use Rattle.pga.specs.Listing.{arc_line}
 use Rattle.pga.proofs.listing.put_arc_lines.Given as goal
 

@@ -1,9 +1,9 @@
-use Rattle.std.proofs.Common.{◌≡◌, ◌+◌, ◌*◌, [], ◌∷◌, subst, arith}
+use Rattle.std.proofs.Common.{◌≡◌, ℕ, ◌+◌, ◌*◌, List, [], ◌∷◌, subst, arith}
 use Rattle.std.specs.List.{flat_map}
 use Rattle.pga.specs.Reading.{jump_in, jumps_from}
-use Rattle.pga.specs.Writing.{Put}
+use Rattle.fields.specs.Putting.{Put}
 use Rattle.pga.specs.Listing.{line, jump_line}
-use Rattle.pga.proofs.Putting.{put_none}
+use Rattle.fields.proofs.Putting.{put_none}
 use Rattle.pga.proofs.Text.{row_put}
 use Rattle.pga.proofs.listing.put_jump_lines.Goals as goal
 
@@ -18,13 +18,14 @@ loop-k-preserved c =
     let file = c.args.file.now in let start = c.args.start in let k = c.loop-k.k in
     let p = c.number_at.ensures in
     let q = c.number_at-in-loop-k.ensures in
-    let here = subst (λ t. Put c.loop-k.out c.loop-k.end t c.put_line-end.new.out c.put_line-end.result) (λ i. line (p i ∷ (q i ∷ []))) c.put_line-end.ensures.put in (
-      row_put jump_line (λ k. jump_in c.args.file.now (c.args.start + 4 * k)) k c.args.out.now c.loop-k.out _ _ _ _ (omega arith) c.loop-k.invariant.0 here,
+    let here = subst (λ t. Put c.loop-k.out c.loop-k.end t c.put_line-end.new.out c.put_line-end.result)
+    (λ i. line (p i ∷ (q i ∷ []))) c.put_line-end.ensures.put in (
+      row_put jump_line (λ k. jump_in file (start + 4 * k)) k c.args.out.now c.loop-k.out _ _ _ _ (omega arith) c.loop-k.invariant.0 here,
       omega (arith, c.loop-k.invariant.1),
     )
 
 pub returns : goal.returns
 returns c =
     let e : c.loop-k.k ≡ c.args.count = omega arith in
-    let p = subst (λ n. Put c.args.out.now c.args.at (flat_map jump_line (jumps_from c.args.file.now c.args.start n)) c.loop-k.out c.loop-k.end) e c.loop-k.invariant.0 in
-    p
+    let text : ℕ → List ℕ = λ n. flat_map jump_line (jumps_from c.args.file.now c.args.start n) in
+    subst (λ n. Put c.args.out.now c.args.at (text n) c.loop-k.out c.loop-k.end) e c.loop-k.invariant.0

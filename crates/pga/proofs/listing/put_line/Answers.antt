@@ -1,7 +1,7 @@
 use Rattle.std.proofs.Common.{[], ◌∷◌, decimal, arith}
 use Rattle.std.specs.List.{flat_map}
 use Rattle.pga.specs.Listing.{next_number}
-use Rattle.pga.proofs.Putting.{put_none, put_then, put_all}
+use Rattle.fields.proofs.Putting.{put_none, put_then, put_all}
 use Rattle.pga.proofs.Text.{next_put}
 use Rattle.pga.proofs.listing.put_line.Goals as goal
 
@@ -13,7 +13,8 @@ put_byte-end-requires c = omega (arith, c.loop-number.invariant.1)
 
 pub loop-number-preserved : goal.loop-number-preserved
 loop-number-preserved c = (
-  next_put c.args.rest.now c.loop-number.number-index 0 c.put_decimal-end.new.out c.loop-number.out c.put_byte-end.new.out _ _ _ _ _
+  next_put c.args.rest.now c.loop-number.number-index 0
+      c.put_decimal-end.new.out c.loop-number.out c.put_byte-end.new.out _ _ _ _ _
       (omega arith) (omega arith) (omega arith) c.loop-number.invariant.0 c.put_byte-end.ensures c.put_decimal-end-in-loop-number.ensures.put,
   omega (arith, c.loop-number.invariant.1),
 )

@@ -1,6 +1,6 @@
 use Rattle.std.proofs.Common.{◌+◌, ◌*◌, ◌≤◌, take}
 use Rattle.std.specs.List.{flat_map}
-use Rattle.pga.specs.Writing.{Put}
+use Rattle.fields.specs.Putting.{Put}
 use Rattle.pga.specs.Listing.{next_number}
 use Rattle.pga.proofs.listing.put_line.Given as goal
 

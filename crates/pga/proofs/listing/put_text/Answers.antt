@@ -1,5 +1,5 @@
 use Rattle.std.proofs.Common.{◌∷◌, subst, arith}
-use Rattle.pga.specs.Writing.{Put}
+use Rattle.fields.specs.Putting.{Put}
 use Rattle.pga.specs.Listing.{line}
 use Rattle.pga.proofs.Listed.{sizes, text_put}
 use Rattle.pga.proofs.listing.put_text.Goals as goal

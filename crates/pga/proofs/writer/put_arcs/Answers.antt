@@ -1,11 +1,13 @@
 use Rattle.std.proofs.Common.{◌+◌, get_or, take, sym, subst, arith}
 use Rattle.std.proofs.lemmas.List.{take_all, length-take-le}
-use Rattle.finding.specs.Finding.{arrow}
 use Rattle.theory.specs.Flattening.{word_moves}
-use Rattle.pga.specs.Files.{arc_numbers}
-use Rattle.pga.specs.Writing.{Put, node, arrows}
-use Rattle.pga.proofs.Putting.{put_none}
-use Rattle.pga.proofs.Arcs.{arcs_more, arcs_pass, arcs_few, no_move, arc_bytes, length_arc_bytes, put_row}
+use Rattle.flattening.specs.Walks.{plain, arrows}
+use Rattle.flattening.proofs.Gathering.{no_move}
+use Rattle.fields.specs.Arcs.{arc_numbers}
+use Rattle.fields.specs.Putting.{Put}
+use Rattle.fields.proofs.Putting.{put_none}
+use Rattle.fields.proofs.Arcs.{arc_bytes, length_arc_bytes, put_row}
+use Rattle.pga.proofs.Arcs.{arcs_more, arcs_pass, arcs_few}
 use Rattle.pga.proofs.writer.put_arcs.Goals as goal
 use Rattle.pga.proofs.writer.put_arcs.Goals.{then-m-words, else-m-words}
 
@@ -27,11 +29,12 @@ loop-m-preserved c =
     elim c.if-m-words.branch [
       | then-m-words w ↦ subst (λ o. Put out at (arc_bytes after) o c.if-m-words.end) (sym w.out-is)
           (subst (λ e. Put out at (arc_bytes after) w.put_numbers-end.new.out e) (sym w.end-is)
-          (put_row arc_numbers before (arrow node (get_or ms i no_move)) after out c.loop-m.out _ at _ _
+          (put_row arc_numbers before (plain (get_or ms i no_move)) after out c.loop-m.out _ at _ _
           (arcs_more words ms i no_move c.loop-m-test.true w.if-m-words.true) (omega arith) c.loop-m.invariant w.put_numbers-end.ensures))
       | else-m-words w ↦ subst (λ o. Put out at (arc_bytes after) o c.if-m-words.end) (sym w.out-is)
           (subst (λ e. Put out at (arc_bytes after) c.loop-m.out e) (sym w.end-is)
-          (subst (λ l. Put out at (arc_bytes l) c.loop-m.out c.loop-m.end) (sym (arcs_pass words ms i no_move c.loop-m-test.true w.if-m-words.false)) c.loop-m.invariant))
+          (subst (λ l. Put out at (arc_bytes l) c.loop-m.out c.loop-m.end)
+          (sym (arcs_pass words ms i no_move c.loop-m-test.true w.if-m-words.false)) c.loop-m.invariant))
     ]
 
 pub returns : goal.returns

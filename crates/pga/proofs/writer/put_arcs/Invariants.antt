@@ -1,7 +1,8 @@
 use Rattle.std.proofs.Common.{take}
 use Rattle.theory.specs.Flattening.{word_moves}
-use Rattle.pga.specs.Writing.{Put, arrows}
-use Rattle.pga.proofs.Arcs.{arc_bytes}
+use Rattle.flattening.specs.Walks.{arrows}
+use Rattle.fields.specs.Putting.{Put}
+use Rattle.fields.proofs.Arcs.{arc_bytes}
 use Rattle.pga.proofs.writer.put_arcs.Given as goal
 
 abbrev pub invariant-loop-m : goal.invariant-loop-m

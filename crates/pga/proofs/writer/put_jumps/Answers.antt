@@ -1,9 +1,12 @@
 use Rattle.std.proofs.Common.{◌+◌, get_or, take, subst, arith}
 use Rattle.std.proofs.lemmas.List.{take_all, length-take-le, length-map, map_more}
+use Rattle.flattening.specs.Orders.{pair}
+use Rattle.fields.specs.Putting.{Put}
+use Rattle.fields.proofs.Putting.{put_none}
+use Rattle.fields.proofs.Arcs.{put_row}
 use Rattle.pga.specs.Files.{jump_numbers}
-use Rattle.pga.specs.Writing.{Put, pair, pairs}
-use Rattle.pga.proofs.Putting.{put_none}
-use Rattle.pga.proofs.Arcs.{no_jump, jump_bytes, length_jump_bytes, put_row}
+use Rattle.pga.specs.Writing.{pairs}
+use Rattle.pga.proofs.Arcs.{no_jump, jump_bytes, length_jump_bytes}
 use Rattle.pga.proofs.writer.put_jumps.Goals as goal
 
 pub loop-j-init : goal.loop-j-init

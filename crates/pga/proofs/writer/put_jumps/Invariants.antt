@@ -1,5 +1,6 @@
 use Rattle.std.proofs.Common.{take}
-use Rattle.pga.specs.Writing.{Put, pairs}
+use Rattle.fields.specs.Putting.{Put}
+use Rattle.pga.specs.Writing.{pairs}
 use Rattle.pga.proofs.Arcs.{jump_bytes}
 use Rattle.pga.proofs.writer.put_jumps.Given as goal
 

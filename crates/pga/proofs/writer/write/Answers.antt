@@ -1,11 +1,14 @@
-use Rattle.std.proofs.Common.{◌≡◌, length, refl, ap, arith}
+use Rattle.std.proofs.Common.{◌≡◌, length, codes, refl, ap, arith}
 use Rattle.std.proofs.lemmas.List.{length-map}
 use Rattle.book.proofs.Numbers.{length_bytes}
 use Rattle.theory.specs.Flattening.{word_moves}
+use Rattle.flattening.specs.Orders.{pair}
+use Rattle.flattening.specs.Walks.{arrows}
+use Rattle.fields.proofs.Arcs.{length_arc_bytes, put_mark}
 use Rattle.pga.specs.Files.{header_numbers}
-use Rattle.pga.specs.Writing.{arrows, pair, acceptor}
-use Rattle.pga.proofs.Arcs.{arcs_few, length_arc_bytes}
-use Rattle.pga.proofs.Written.{put_mark, file_put, file_written}
+use Rattle.pga.specs.Writing.{acceptor}
+use Rattle.pga.proofs.Arcs.{arcs_few}
+use Rattle.pga.proofs.Written.{file_put, file_written}
 use Rattle.pga.proofs.writer.write.Goals as goal
 
 pub overflow_mul-needed : goal.overflow_mul-needed
@@ -30,8 +33,16 @@ pub put_jumps-requires : goal.put_jumps-requires
 put_jumps-requires c =
     let words = c.args.parts.words in
     let moves = c.args.parts.moves.now in
-    let header = c.header_of-header.result in
-    (omega (arith, length_bytes header, ap length c.header_of-header.ensures, length_arc_bytes (word_moves words (arrows moves)), arcs_few words moves), omega arith)
+    let header = c.header_of-header.result in (
+      omega (
+        arith,
+        length_bytes header,
+        ap length c.header_of-header.ensures,
+        length_arc_bytes (word_moves words (arrows moves)),
+        arcs_few words moves,
+      ),
+      omega arith,
+    )
 
 pub returns : goal.returns
 returns c =
@@ -44,4 +55,5 @@ returns c =
     file_written a c.args.out.now c.put_jumps.new.out c.put_jumps.result (omega arith)
     (file_put a header c.args.out.now _ c.put_numbers-arcs_at.new.out c.put_arcs-jumps_at.new.out c.put_jumps.new.out _ _ _ same
     (omega arith) (omega arith) (omega arith)
-    (put_mark c.args.out.now _ c.copy_from_slice.ensures.after) c.put_numbers-arcs_at.ensures c.put_arcs-jumps_at.ensures c.put_jumps.ensures)
+    (put_mark c.args.out.now _ (codes "PGA") c.copy_from_slice.ensures.after refl) c.put_numbers-arcs_at.ensures
+    c.put_arcs-jumps_at.ensures c.put_jumps.ensures)

@@ -1,5 +1,5 @@
 use Rattle.std.proofs.Common.{refl}
-use Rattle.policy.proofs.Taking.{none_new}
+use Rattle.policy.specs.Taking.{none_new}
 use Rattle.policy.proofs.one_class.OneClassPolicy.next.Goals as goal
 
 pub returns : goal.returns

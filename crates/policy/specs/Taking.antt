@@ -1,10 +1,12 @@
 -- What is taken is settled by the classes held: asking foretells it.
-use Rattle.std.proofs.Common.{◌≡◌, ℕ, ◌≤◌, List, [], ◌∷◌, ◌++◌, length, Some, Option, sym, refl, ap, ◌∙◌, subst, arith}
+use Rattle.std.specs.Prelude.{◌≡◌, ℕ, ◌≤◌, List, [], ◌∷◌, ◌++◌, length, Some, None, Option, refl}
+use Rattle.std.proofs.Common.{sym, ap, subst, ◌∙◌, arith}
+use Rattle.std.proofs.lemmas.Bool.{false≢true}
 use Rattle.table.specs.Lists.{StandsAt, Lacks, Distinct}
 use Rattle.table.specs.declared.numbers.ClassNo.{ClassNo}
 use Rattle.table.proofs.Lists.{stands_below, stands_same}
 use Rattle.theory.specs.Policies.{Class}
-use Rattle.policy.specs.Classes.{Room, no_room, Taken}
+use Rattle.policy.specs.Classes.{Room, HasRoom, no_room, Taken, Foretold}
 use Rattle.policy.specs.Classes.Taken.{old, new, unheld, no_place}
 
 pub class_same : (i j : ClassNo) → i.0 ≡ j.0 → i ≡ j
@@ -33,19 +35,28 @@ module _ (held : List Class) (onward : Class → Class) (i : ℕ) where
   taken_same d (new c s l f q) (old {j = k} e t b) = absurd (not_both k.0 t s b l)
   taken_same d (new {j = j} c s l f q) (new {j = k} e t m g p) = (some_same j k (q ∙ sym p), ap (λ (x : Class). held ++ (x ∷ [])) (one s t))
   taken_same d (new c s l f q) (unheld p) = absurd (past s p)
-  taken_same {room} d (new c s l f q) (no_place e t m g) = absurd (g (subst (room held) (one s t) f))
+  taken_same {room} d (new c s l f q) (no_place e t m g) = absurd (g (subst (HasRoom room held) (one s t) f))
   taken_same d (unheld p) (old e t b) = absurd (past t p)
   taken_same d (unheld p) (new e t l f q) = absurd (past t p)
   taken_same d (unheld p) (unheld q) = (refl, refl)
   taken_same d (unheld p) (no_place e t l f) = (refl, refl)
   taken_same d (no_place c s l f) (old {j = k} e t b) = absurd (not_both k.0 t s b l)
-  taken_same {room} d (no_place c s l f) (new e t m g q) = absurd (f (subst (room held) (sym (one s t)) g))
+  taken_same {room} d (no_place c s l f) (new e t m g q) = absurd (f (subst (HasRoom room held) (sym (one s t)) g))
   taken_same d (no_place c s l f) (unheld p) = (refl, refl)
   taken_same d (no_place c s l f) (no_place e t m g) = (refl, refl)
+
+none_kept : {room : Room} {held : List Class} {onward : Class → Class} {i : ℕ} {h : List Class} → Taken room held onward i None h → h ≡ held
+none_kept (unheld p) = refl
+none_kept (no_place c s l f) = refl
+
+-- no class has two numbers, so asking foretells taking
+pub foretold : (room : Room) (held : List Class) → Distinct held → Foretold room held
+foretold room held d =
+    record { same = λ onward i r r' h f t. (taken_same held onward i d f.1 t).0; kept = λ onward i h t. none_kept t }
 
 -- where no new class has a place, nothing is taken
 pub none_new : {held : List Class} {onward : Class → Class} {i : ℕ} {r : Option ClassNo} {h : List Class} → Taken no_room held onward i r h → Taken no_room held onward i r held
 none_new (old c s a) = old c s a
-none_new (new c s l f q) = absurd f
+none_new (new c s l f q) = absurd (false≢true f)
 none_new (unheld p) = unheld p
 none_new (no_place c s l f) = no_place c s l f
