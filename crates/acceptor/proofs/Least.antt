@@ -1,49 +1,119 @@
 -- The least word over which a set of nodes leads anywhere.
-use Rattle.std.proofs.Common.{◌≡◌, ℕ, ◌+◌, ◌<◌, min, ◌⊎◌, List, [], ◌∷◌, Some, None, Option, sym, refl, subst, inl, inr, ⊎_elim, arith}
+use Rattle.std.proofs.Common.{◌≡◌, ℕ, ◌≤◌, min, Bool, true, false, cond, ◌&&◌, eqb, leb, ◌⊎◌, List, [], ◌∷◌, Some, None, Option, MatchOption, sym, refl, ap, ◌∙◌, subst, inl, inr, ⊎_elim, arith, eq-eqb, eqb-true, le-leb, leb-true}
 use mathlib.Core.Option.{none}
+use mathlib.Core.List.Memᴰ
 use mathlib.Core.List.{Memᴰ}
-use Rattle.std.proofs.lemmas.Bool.{cases_lt}
-use Rattle.table.specs.Sets.{Row, In, members, NextMember}
-use Rattle.table.proofs.Rows.{members_in, in_members}
+use Rattle.std.specs.List.{fold, reduce, filter_map, cons_option}
+use Rattle.std.proofs.lemmas.Bool.{cases_lt, and_parts, and_from}
+use Rattle.table.specs.Lists.{InOrder}
+use Rattle.finding.specs.Laws.{Rises}
 use Rattle.finding.specs.Numbered.{Arrow}
 use Rattle.theory.specs.Flattening.{Acceptor}
 use Rattle.theory.specs.Sentences.Reads.{stop}
 use Rattle.theory.specs.Subsets.{word_set, subset_step}
 use Rattle.theory.proofs.Subsets.{word_members, step_made}
 use Rattle.pga.specs.Files.{Fit}
-use Rattle.acceptor.specs.Rows.{LeastOf, Leaves}
-use Rattle.acceptor.specs.Steps.{NextWord, lesser_of}
+use Rattle.acceptor.specs.Rows.{LeastOf, Leaves, LeastWord}
+use Rattle.acceptor.specs.Steps.{NextWord}
 use Rattle.acceptor.proofs.Fitting.{fit_range}
 
--- the least number of which one of two holds is the lesser of the two least numbers
-module _ (P Q R : ℕ → Type 0) (x : ℕ) (p-is : (y : ℕ) → P y → R y) (q-is : (y : ℕ) → Q y → R y) (either : (y : ℕ) → R y → P y ⊎ Q y) where
-  pub least_lesser : (a b : Option ℕ) → LeastOf P x a → LeastOf Q x b → LeastOf R x (lesser_of a b)
-  least_lesser None None h k = λ y l r. ⊎_elim (h y l) (k y l) (either y r)
-  least_lesser None (Some z) h k = (k.0, q-is z k.1, λ y l m r. ⊎_elim (h y l) (k.2 y l m) (either y r))
-  least_lesser (Some z) None h k = (h.0, p-is z h.1, λ y l m r. ⊎_elim (h.2 y l m) (k y l) (either y r))
-  least_lesser (Some z) (Some w) h k =
-      ⊎_elim
-      (λ d. let e : z ≡ min z w = omega arith in
-      subst (λ v. LeastOf R x (Some v)) e (h.0, p-is z h.1, λ y l m r. ⊎_elim (h.2 y l m) (k.2 y l (omega arith)) (either y r)))
-      (λ d. let e : w ≡ min z w = omega arith in
-      subst (λ v. LeastOf R x (Some v)) e (k.0, q-is w k.1, λ y l m r. ⊎_elim (h.2 y l (omega arith)) (k.2 y l m) (either y r)))
-      (cases_lt z w)
+-- the least of some numbers
+least : (x : ℕ) (xs : List ℕ) → Memᴰ (fold min x xs) (x ∷ xs) × ((y : ℕ) → Memᴰ y (x ∷ xs) → fold min x xs ≤ y)
+least x [] = (Memᴰ.head refl, (λ y m. ⊎_elim (λ e. omega arith) (λ z. absurd (Memᴰ.not-nil z)) (Memᴰ.cases_cons m)))
+least x (z ∷ xs) =
+    let (i, l) = least (min x z) xs in
+    let first = l (min x z) (Memᴰ.head refl) in (
+      ⊎_elim (λ e. ⊎_elim (λ h. Memᴰ.head (omega arith)) (λ h. Memᴰ.tail (Memᴰ.head (omega arith))) (cases_lt x z)) (λ m. Memᴰ.tail (Memᴰ.tail m)) (Memᴰ.cases_cons i),
+      (λ y m. ⊎_elim (λ e. omega arith) (λ n. ⊎_elim (λ e. omega arith) (λ o. l y (Memᴰ.tail o)) (Memᴰ.cases_cons n)) (Memᴰ.cases_cons m)),
+    )
 
-module _ (arcs : List Arrow) (row : List ℕ) where
-  -- an arc on x leaves a node of the row that is below n
-  abbrev pub LeavesBelow : ℕ → ℕ → Type 0
-  LeavesBelow n x = (q : ℕ) × (q < n) × In row q × Leaves arcs q x
+abbrev IsLeast : List ℕ → Option ℕ → Type 0
+IsLeast xs r = MatchOption r (xs ≡ []) (λ m. Memᴰ m xs × ((y : ℕ) → Memᴰ y xs → m ≤ y))
 
-  -- one node more
-  pub least_more : (n k x : ℕ) (a b : Option ℕ) → NextMember row n (Some k) → LeastOf (LeavesBelow n) x a → LeastOf (Leaves arcs k) x b → LeastOf (LeavesBelow (k + 1)) x (lesser_of a b)
-  least_more n k x a b next h g =
-      let l = next.0 in
-      least_lesser (LeavesBelow n) (Leaves arcs k) (LeavesBelow (k + 1)) x
-      (λ y (q, u, m, v). (q, omega arith, m, v)) (λ y v. (k, omega arith, next.2, v))
-      (λ y (q, u, m, v). ⊎_elim (λ s. inl (q, s, m, v))
-      (λ s. ⊎_elim (λ t. absurd (next.3 q s t m)) (λ t. let e : q ≡ k = omega arith in inr (subst (λ i. Leaves arcs i y) e v)) (cases_lt q k))
-      (cases_lt q n))
-      a b h g
+least_is : (xs : List ℕ) → IsLeast xs (reduce min xs)
+least_is [] = refl
+least_is (x ∷ xs) = least x xs
+
+-- the least that a function gives of a list is the least of which the predicate of some element holds
+module _ {A : Type 0} (P : A → ℕ → Type 0) (x : ℕ) (g : A → Option ℕ) (is : (a : A) → LeastOf (P a) x (g a)) where
+  give_cases : (o : Option ℕ) (y : ℕ) (ys : List ℕ) → Memᴰ y (cons_option o ys) → (o ≡ Some y) ⊎ Memᴰ y ys
+  give_cases None y ys m = inr m
+  give_cases (Some z) y ys m = ⊎_elim (λ q. inl (ap Some (sym q))) inr (Memᴰ.cases_cons m)
+
+  given_from : (l : List A) (y : ℕ) → Memᴰ y (filter_map g l) → (a : A) × Memᴰ a l × (g a ≡ Some y)
+  given_from [] y m = absurd (Memᴰ.not-nil m)
+  given_from (a ∷ l) y m = ⊎_elim (λ q. (a, Memᴰ.head refl, q)) (λ r. let f = given_from l y r in (f.0, Memᴰ.tail f.1, f.2)) (give_cases (g a) y (filter_map g l) m)
+
+  give_later : (o : Option ℕ) (y : ℕ) (ys : List ℕ) → Memᴰ y ys → Memᴰ y (cons_option o ys)
+  give_later None y ys m = m
+  give_later (Some z) y ys m = Memᴰ.tail m
+
+  given_in : (l : List A) (a : A) (y : ℕ) → Memᴰ a l → g a ≡ Some y → Memᴰ y (filter_map g l)
+  given_in [] a y m e = absurd (Memᴰ.not-nil m)
+  given_in (b ∷ l) a y m e =
+      ⊎_elim (λ q. subst (λ o. Memᴰ y (cons_option o (filter_map g l))) (sym (ap g (sym q) ∙ e)) (Memᴰ.head refl))
+      (λ r. give_later (g b) y (filter_map g l) (given_in l a y r e))
+      (Memᴰ.cases_cons m)
+
+  -- what holds of a number is given a number that is no greater
+  given_below : (a : A) (y : ℕ) → x ≤ y → P a y → (z : ℕ) × (g a ≡ Some z) × (z ≤ y)
+  given_below a y l p = at (g a) refl (is a)
+    where
+      at : (o : Option ℕ) → g a ≡ o → LeastOf (P a) x o → (z : ℕ) × (g a ≡ Some z) × (z ≤ y)
+      at None e h = absurd (h y l p)
+      at (Some z) e h = (z, e, ⊎_elim (λ s. absurd (h.2 y l s p)) (λ s. omega arith) (cases_lt y z))
+
+  pub least_given : (l : List A) → LeastOf (λ y. (a : A) × Memᴰ a l × P a y) x (reduce min (filter_map g l))
+  least_given l = at (reduce min (filter_map g l)) (least_is (filter_map g l))
+    where
+      at : (r : Option ℕ) → IsLeast (filter_map g l) r → LeastOf (λ y. (a : A) × Memᴰ a l × P a y) x r
+      at None e = λ y b (a, m, p). let z = given_below a y b p in Memᴰ.not-nil (subst (Memᴰ z.0) e (given_in l a z.0 m z.1))
+      at (Some n) (among, below) =
+          let f = given_from l n among in
+          let h = subst (LeastOf (P f.0) x) f.2 (is f.0) in
+          (h.0, (f.0, f.1, h.1), λ y b s (a, m, p). let z = given_below a y b p in let i = below z.0 (given_in l a z.0 m z.1) in let j = z.2 in absurd (omega arith))
+
+-- the least number is one
+least_one : (P : ℕ → Type 0) (x : ℕ) (a b : Option ℕ) → LeastOf P x a → LeastOf P x b → a ≡ b
+least_one P x None None h k = refl
+least_one P x None (Some z) h k = absurd (h z k.0 k.1)
+least_one P x (Some z) None h k = absurd (k z h.0 h.1)
+least_one P x (Some z) (Some w) h k =
+    ap Some (⊎_elim (λ s. absurd (k.2 z h.0 s h.1)) (λ s. ⊎_elim (λ t. absurd (h.2 w k.0 t k.1)) (λ t. omega arith) (cases_lt w z)) (cases_lt z w))
+
+least_same : (P Q : ℕ → Type 0) (x : ℕ) (r : Option ℕ) → ((y : ℕ) → P y → Q y) → ((y : ℕ) → Q y → P y) → LeastOf P x r → LeastOf Q x r
+least_same P Q x None to back h = λ y l q. h y l (back y q)
+least_same P Q x (Some z) to back h = (h.0, to z h.1, λ y l s q. h.2 y l s (back y q))
+
+module _ (arcs : List Arrow) (x : ℕ) where
+  -- an arc's word, if the arc leaves q on a word that is x or more
+  abbrev word_of : ℕ → Arrow → Option ℕ
+  word_of q a = cond (eqb a.0 q && leb x a.1) (Some a.1) None
+
+  abbrev On : ℕ → Arrow → ℕ → Type 0
+  On q a y = (a.0 ≡ q) × (a.1 ≡ y)
+
+  word_least : (q : ℕ) (a : Arrow) → LeastOf (On q a) x (word_of q a)
+  word_least q a = at (eqb a.0 q && leb x a.1) refl
+    where
+      at : (b : Bool) → (eqb a.0 q && leb x a.1) ≡ b → LeastOf (On q a) x (cond b (Some a.1) None)
+      at true e = let p = and_parts (eqb a.0 q) (leb x a.1) e in (leb-true x a.1 p.1, (eqb-true a.0 q p.0, refl), λ z l s o. let i = o.1 in absurd (omega arith))
+      at false e = λ y l o. let t : (eqb a.0 q && leb x a.1) ≡ true = and_from (eqb a.0 q) (leb x a.1) (eq-eqb a.0 q o.0) (le-leb x a.1 (let i = o.1 in omega arith)) in absurd (cc)
+
+  -- the least word that is x or more on which an arc leaves q
+  pub least_word : ℕ → Option ℕ
+  least_word q = reduce min (filter_map (word_of q) arcs)
+
+  least_leaves : (q : ℕ) → LeastWord arcs q x (least_word q)
+  unfolding least_word
+  least_leaves q =
+      least_same (λ y. (a : Arrow) × Memᴰ a arcs × On q a y) (Leaves arcs q) x (least_word q)
+      (λ y (a, m, (e, f)). (a.2, subst (λ j. Memᴰ (j, y, a.2) arcs) e (subst (λ i. Memᴰ (a.0, i, a.2) arcs) f m)))
+      (λ y (p, m). ((q, y, p), m, (refl, refl)))
+      (least_given (On q) x (word_of q) (word_least q) arcs)
+
+  pub word_is : InOrder Rises arcs → (q : ℕ) (r : Option ℕ) → (InOrder Rises arcs → LeastWord arcs q x r) → r ≡ least_word q
+  word_is o q r h = least_one (Leaves arcs q) x r (least_word q) (h o) (least_leaves q)
 
 -- an empty set is no state
 step_none : (f : Acceptor) (set : List ℕ) (x : ℕ) → ((n : ℕ) → Memᴰ n (word_set f set x) → ⊥) → subset_step f set x ≡ none
@@ -53,24 +123,27 @@ step_none f set x none_in = cases (word_set f set x) refl
     cases [] e = rw (e, subset_step)
     cases (n ∷ ns) e = absurd (none_in n (subst (Memᴰ n) (sym e) (Memᴰ.head refl)))
 
-module _ (f : Acceptor) (fit : Fit f) (row : List ℕ) (rowed : Row row) (n : ℕ) (last : NextMember row n None) where
-  -- the set does not move where no arc leaves a node of it
-  stays : (x : ℕ) → (LeavesBelow f.arcs row n x → ⊥) → subset_step f (members row) x ≡ none
-  stays x no-arc = step_none f (members row) x
-      (λ k m. let o = (word_members f (fit_range f fit) (members row) x k).0 m in
-      let q = o.by.from in let i = members_in row q o.by.member in
-      no-arc (q, ⊎_elim (λ l. l) (λ l. absurd (last q l i)) (cases_lt q n), i, (o.middle, o.by.over)))
+module _ (f : Acceptor) (fit : Fit f) (set : List ℕ) where
+  abbrev AnyLeaves : ℕ → Type 0
+  AnyLeaves y = (q : ℕ) × Memᴰ q set × Leaves f.arcs q y
 
-  pub next_word : (x : ℕ) (r : Option ℕ) → LeastOf (LeavesBelow f.arcs row n) x r → NextWord f (members row) x r
-  next_word x None h = λ y l. stays y (h y l)
-  next_word x (Some y) (l, (q, u, m, (p, a)), none-less) =
+  -- the set does not move where no arc leaves a node of it
+  stays : (x : ℕ) → (AnyLeaves x → ⊥) → subset_step f set x ≡ none
+  stays x no-arc = step_none f set x
+      (λ k m. let o = (word_members f (fit_range f fit) set x k).0 m in no-arc (o.by.from, o.by.member, (o.middle, o.by.over)))
+
+  next_of : (x : ℕ) (r : Option ℕ) → LeastOf AnyLeaves x r → NextWord f set x r
+  next_of x None h = λ y l. stays y (h y l)
+  next_of x (Some y) (l, (q, m, (p, a)), none-less) =
       let range = fit_range f fit in (
         l,
         (range.arcs_within q y p a).1,
         (λ z i j. stays z (none-less z i j)),
         (
-          word_set f (members row) y,
-          step_made f range (members row) y ((word_members f range (members row) y p).1
-              (record { middle = p; by = record { from = q; member = in_members row rowed q m; over = a }; reads = stop })),
+          word_set f set y,
+          step_made f range set y ((word_members f range set y p).1 (record { middle = p; by = record { from = q; member = m; over = a }; reads = stop })),
         ),
       )
+
+  pub next_word : (x : ℕ) (r : Option ℕ) → r ≡ reduce min (filter_map (least_word f.arcs x) set) → NextWord f set x r
+  next_word x r e = next_of x r (subst (LeastOf AnyLeaves x) (sym e) (least_given (Leaves f.arcs) x (least_word f.arcs x) (least_leaves f.arcs x) set))

@@ -3,6 +3,7 @@ pub mod Sentences
 pub mod Halving
 pub mod Standing
 pub mod Opening
+pub mod Chunks
 pub mod Growing
 pub mod Sizes
 pub mod Spreading

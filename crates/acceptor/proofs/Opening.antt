@@ -1,5 +1,6 @@
 -- The acceptor that is read from a file is the file's.
-use Rattle.std.proofs.Common.{◌≡◌, ℕ, ◌+◌, ◌*◌, ◌/◌, ◌<◌, ◌≤◌, List, map, length, get_or, take, drop, sym, ap, ◌∙◌, subst, arith}
+use Rattle.std.proofs.Common.{◌≡◌, ℕ, ◌+◌, ◌*◌, ◌/◌, ◌<◌, ◌≤◌, List, map, length, get_or, take, drop, sym, ap, ◌∙◌, subst, add_assoc, arith}
+use Rattle.std.proofs.Math.Nat.{mul-le-mul_left}
 use Rattle.std.specs.List.{range_with_len, AllByRecursion}
 use Rattle.std.proofs.lemmas.List.FromFn.{length-map-range_with_len, get_or-map-range_with_len}
 use Rattle.std.proofs.lemmas.List.{length-drop, length-take-le, get_or-take, get_or-drop, same_lists}
@@ -20,7 +21,7 @@ made_same f g n each =
 
 module _ (bytes : List ℕ) (start : ℕ) where
   -- a number that stands in a part
-  number_in_part : (m at : ℕ) → at + 2 ≤ m → number_at (take m (drop start bytes)) at ≡ number_at bytes (start + at)
+  pub number_in_part : (m at : ℕ) → at + 2 ≤ m → number_at (take m (drop start bytes)) at ≡ number_at bytes (start + at)
   number_in_part m at h =
       let part = take m (drop start bytes) in
       let low : get_or part at 0 ≡ get_or bytes (start + at) 0 = get_or-take m (drop start bytes) at 0 (omega arith) ∙ get_or-drop start bytes at 0 in
@@ -32,37 +33,38 @@ module _ (bytes : List ℕ) (start : ℕ) where
   pub part_length : (m : ℕ) → start + m ≤ length bytes → length (take m (drop start bytes)) ≡ m
   part_length m h = length-take-le m (drop start bytes) (let l = length-drop start bytes in omega arith)
 
+  -- what stands in rows of so many bytes of a part, read row by row
+  part_rows : {A : Type 0} (read : List ℕ → ℕ → A) (size n : ℕ) → length (take (size * n) (drop start bytes)) / size ≡ n
+      → ((at : ℕ) → at + size ≤ size * n → read (take (size * n) (drop start bytes)) at ≡ read bytes (start + at))
+      → map (λ k. read (take (size * n) (drop start bytes)) (0 + size * k)) (range_with_len 0 (length (take (size * n) (drop start bytes)) / size))
+      ≡ map (λ k. read bytes (start + size * k)) (range_with_len 0 n)
+  part_rows read size n few each =
+      let part = take (size * n) (drop start bytes) in
+      ap (λ m. map (λ k. read part (0 + size * k)) (range_with_len 0 m)) few
+      ∙ made_same (λ k. read part (0 + size * k)) (λ k. read bytes (start + size * k)) n
+      (λ k b. let z : 0 + size * k ≡ size * k = omega arith in
+      let q : k + 1 ≤ n = omega arith in
+      let m : size * (k + 1) ≤ size * n = mul-le-mul_left size q in
+      ap (read part) z ∙ each (size * k) (omega arith))
+
   -- the arcs of a part of the bytes
   pub part_arcs : (n : ℕ) → start + 6 * n ≤ length bytes → arcs_of (take (6 * n) (drop start bytes)) ≡ arcs_from bytes start n
   part_arcs n h =
-      let part = take (6 * n) (drop start bytes) in
       let l = part_length (6 * n) h in
-      let few : length part / 6 ≡ n = omega arith in
-      ap (arcs_from part 0) few
-      ∙ made_same (λ k. arc_in part (0 + 6 * k)) (λ k. arc_in bytes (start + 6 * k)) n
-      (λ k b. let p : (at : ℕ) → at + 2 ≤ 6 * n → number_at part at ≡ number_at bytes (start + at) = number_in_part (6 * n) in
-      let z : 0 + 6 * k ≡ 6 * k = omega arith in
-      let e : start + (6 * k + 2) ≡ start + 6 * k + 2 = omega arith in
-      let d : start + (6 * k + 4) ≡ start + 6 * k + 4 = omega arith in
-      let x = p (6 * k) (omega arith) in
-      let y = p (6 * k + 2) (omega arith) ∙ ap (number_at bytes) e in
-      let w = p (6 * k + 4) (omega arith) ∙ ap (number_at bytes) d in
-      ap (arc_in part) z ∙ (λ i. (x i, y i, w i)))
+      part_rows arc_in 6 n (omega arith)
+      (λ at b. let p = number_in_part (6 * n) in
+      let x = p at (omega arith) in
+      let y = p (at + 2) (omega arith) ∙ ap (number_at bytes) (sym (add_assoc start at 2)) in
+      let w = p (at + 4) (omega arith) ∙ ap (number_at bytes) (sym (add_assoc start at 4)) in λ i. (x i, y i, w i))
 
   -- the jumps of a part of the bytes
   pub part_jumps : (n : ℕ) → start + 4 * n ≤ length bytes → jumps_of (take (4 * n) (drop start bytes)) ≡ jumps_from bytes start n
   part_jumps n h =
-      let part = take (4 * n) (drop start bytes) in
       let l = part_length (4 * n) h in
-      let few : length part / 4 ≡ n = omega arith in
-      ap (jumps_from part 0) few
-      ∙ made_same (λ k. jump_in part (0 + 4 * k)) (λ k. jump_in bytes (start + 4 * k)) n
-      (λ k b. let p : (at : ℕ) → at + 2 ≤ 4 * n → number_at part at ≡ number_at bytes (start + at) = number_in_part (4 * n) in
-      let z : 0 + 4 * k ≡ 4 * k = omega arith in
-      let e : start + (4 * k + 2) ≡ start + 4 * k + 2 = omega arith in
-      let x = p (4 * k) (omega arith) in
-      let y = p (4 * k + 2) (omega arith) ∙ ap (number_at bytes) e in
-      ap (jump_in part) z ∙ (λ i. (x i, y i)))
+      part_rows jump_in 4 n (omega arith)
+      (λ at b. let p = number_in_part (4 * n) in
+      let x = p at (omega arith) in
+      let y = p (at + 2) (omega arith) ∙ ap (number_at bytes) (sym (add_assoc start at 2)) in λ i. (x i, y i))
 
 -- the length of a file is what its counts demand
 pub file_long : (bytes : List ℕ) (a : Acceptor) → IsFile bytes a → length bytes ≡ 15 + 6 * number_at bytes 11 + 4 * number_at bytes 13

@@ -1,5 +1,5 @@
 -- A turn from word to word: where it stands, and what it tells of the whole sentence.
-use Rattle.std.proofs.Common.{◌≡◌, ℕ, ◌+◌, ◌<◌, ◌≤◌, Bool, ◌⊎◌, List, [], ◌∷◌, ◌++◌, length, get_or, take, drop, Ok, Err, Decides, Result, sym, ap, ◌∙◌, subst, ⊎_elim, append_assoc, append-nil, arith}
+use Rattle.std.proofs.Common.{◌≡◌, ℕ, ◌+◌, ◌<◌, ◌≤◌, Bool, List, [], ◌∷◌, ◌++◌, length, get_or, take, drop, Ok, Err, Decides, Result, sym, ap, ◌∙◌, subst, ⊎_elim, append_assoc, append-nil, arith}
 use Rattle.std.specs.List.{AllByRecursion}
 use Rattle.std.proofs.lemmas.List.{drop_more, take_all, take-append-drop}
 use Rattle.std.proofs.ByRecursion.{All-push}
@@ -10,7 +10,7 @@ use Rattle.acceptor.specs.declared.turn.Condition.{Condition}
 use Rattle.acceptor.specs.declared.turn.Condition.TheVariants.{Open}
 use Rattle.acceptor.specs.declared.turn.Event.TheVariants.{Begin, Word, End}
 use Rattle.acceptor.specs.declared.turn.Told.{Told}
-use Rattle.acceptor.specs.declared.turn.Told.TheVariants.{Begun, Taken, Judged}
+use Rattle.acceptor.specs.declared.turn.Told.TheVariants.{Judged}
 use Rattle.acceptor.specs.Turns.{First, Tells, StandsAfter, FirstUnknown, Accepted}
 use Rattle.acceptor.proofs.Telling.{Refusing, Taking, told_by}
 
@@ -45,11 +45,10 @@ module _ {A P : Type 0} (runs : Running A P) (a : A) where
 
   -- and it is told by a judgement
   pub end_judged : {w : List ℕ} {c after : Condition P} {told : Told} → StandsAfter runs a w c → Tells runs a c End (Ok told) after
-      → (told ≡ Begun) ⊎ (told ≡ Taken) → ⊥
-  end_judged {w} {c} {after} {told} s t o =
+      → ((v : Bool) → told ≡ Judged v → ⊥) → ⊥
+  end_judged {w} {c} {after} {told} s t n =
       let b = told_by runs a (subst (λ d. Tells runs a d End (Ok told) after) s.is t) in
-      let h : told ≡ Judged b.verdict = let e = b.told in cc in
-      ⊎_elim (λ e. let z : ◌≡◌ {A = ℕ} 0 1 = cc in omega arith) (λ e. let z : ◌≡◌ {A = ℕ} 0 1 = cc in omega arith) o
+      n b.verdict (let e = b.told in cc)
 
   first_stands : {after : Condition P} (first : P) → after ≡ Open first → First runs a first → StandsAfter runs a [] after
   first_stands first e h = record { at = first; is = e; known = tt; rests = λ k s. (h k).1 s }

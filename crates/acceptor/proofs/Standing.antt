@@ -1,8 +1,7 @@
 -- Where the arcs and jumps of bytes stand.
-use Rattle.std.proofs.Common.{◌≡◌, ℕ, ◌+◌, ◌*◌, ◌/◌, ◌<◌, ◌≤◌, ◌⊎◌, List, map, length, Some, None, sym, ap, ◌∙◌, subst, inl, inr, ⊎_elim, zero-add, arith}
+use Rattle.std.proofs.Common.{◌≡◌, ℕ, ◌+◌, ◌*◌, ◌/◌, ◌<◌, ◌≤◌, List, map, length, Some, None, sym, ap, ◌∙◌, subst, inl, inr, ⊎_elim, zero-add, arith}
 use mathlib.Core.List.{Memᴰ}
 use Rattle.std.specs.List.{range_with_len}
-use Rattle.std.proofs.lemmas.List.{length-map}
 use Rattle.std.proofs.lemmas.List.FromFn.{length-map-range_with_len, get_or-map-range_with_len}
 use Rattle.std.proofs.lemmas.Bool.{cases_lt}
 use Rattle.table.specs.Lists.{StandsAt, InOrder}
@@ -11,10 +10,9 @@ use Rattle.finding.specs.Laws.{Rises}
 use Rattle.finding.specs.Numbered.{Arrow}
 use Rattle.flattening.specs.Places.{MoveOn}
 use Rattle.fields.specs.Reading.{arc_in}
-use Rattle.pga.specs.Reading.{jump_in}
 use Rattle.acceptor.specs.Rising.{Less, Parted}
 use Rattle.acceptor.proofs.Halving.{key_at, not_front}
-use Rattle.acceptor.specs.Rows.{arcs_of, jumps_of, arc_key, LeastWord}
+use Rattle.acceptor.specs.Rows.{arcs_of, arc_key, LeastWord}
 
 -- what a function of the index makes stands at its index
 pub made_stands : {A : Type 0} (f : ℕ → A) (n k : ℕ) → k < n → StandsAt (map f (range_with_len 0 n)) k (f k)
@@ -26,20 +24,8 @@ module _ (bytes : List ℕ) where
   pub arcs_length : length (arcs_of bytes) ≡ length bytes / 6
   arcs_length = length-map-range_with_len (λ k. arc_in bytes (0 + 6 * k)) 0 (length bytes / 6)
 
-  pub arc_keys_length : length (map arc_key (arcs_of bytes)) ≡ length bytes / 6
-  arc_keys_length = length-map (arcs_of bytes) arc_key ∙ arcs_length
-
-  pub jumps_length : length (jumps_of bytes) ≡ length bytes / 4
-  jumps_length = length-map-range_with_len (λ k. jump_in bytes (0 + 4 * k)) 0 (length bytes / 4)
-
   pub arc_stands : (k : ℕ) → k < length bytes / 6 → StandsAt (arcs_of bytes) k (arc_in bytes (6 * k))
   arc_stands k h = subst (λ at. StandsAt (arcs_of bytes) k (arc_in bytes at)) (zero-add (6 * k)) (made_stands (λ k. arc_in bytes (0 + 6 * k)) (length bytes / 6) k h)
-
-  pub arc_key_stands : (k : ℕ) → k < length bytes / 6 → StandsAt (map arc_key (arcs_of bytes)) k (arc_key (arc_in bytes (6 * k)))
-  arc_key_stands k h = stands_map arc_key (arcs_of bytes) k (arc_in bytes (6 * k)) (arc_stands k h)
-
-  pub jump_stands : (k : ℕ) → k < length bytes / 4 → StandsAt (jumps_of bytes) k (jump_in bytes (4 * k))
-  jump_stands k h = subst (λ at. StandsAt (jumps_of bytes) k (jump_in bytes at)) (zero-add (4 * k)) (made_stands (λ k. jump_in bytes (0 + 4 * k)) (length bytes / 4) k h)
 
 -- ── arcs that rise, by the node or state left and the word ──
 
@@ -113,10 +99,10 @@ module _ (arcs : List Arrow) (rising : InOrder Rises arcs) where
       its = stands_unmap arc_key arcs n t at
 
       -- the arc there is another
-      pub other_target : (t.0 ≡ q → ⊥) ⊎ ((t.0 ≡ q) × (t.1 ≡ x → ⊥)) → MoveOn arcs q x None
+      pub other_target : (t.0 ≡ q → t.1 ≡ x → ⊥) → MoveOn arcs q x None
       other_target o p m =
           let e = stands_same (map arc_key arcs) n (q, x) t (stands_map arc_key arcs n (q, x, p) (arc_at p m)) at in
-          ⊎_elim (λ ne. ne (sym (ap (λ (k : ℕ × ℕ). k.0) e))) (λ ne. ne.1 (sym (ap (λ (k : ℕ × ℕ). k.1) e))) o
+          o (sym (ap (λ (k : ℕ × ℕ). k.0) e)) (sym (ap (λ (k : ℕ × ℕ). k.1) e))
 
       -- it is the arc on x
       pub is_target : (a : Arrow) → StandsAt arcs n a → t.0 ≡ q → t.1 ≡ x → MoveOn arcs q x (Some a.2)

@@ -1,5 +1,5 @@
 -- How sets of nodes grow by jumps.
-use Rattle.std.specs.Prelude.{◌≡◌, ℕ, ◌<◌, ◌≤◌, min, ◌⊎◌, List, [], Some, None, Option}
+use Rattle.std.specs.Prelude.{◌≡◌, ℕ, ◌<◌, ◌≤◌, ◌⊎◌, List, [], Some, None, Option}
 use mathlib.Core.List.{Memᴰ}
 use Rattle.std.proofs.Math.Option.{none, some}
 use Rattle.table.specs.Lists.{InOrder}
@@ -44,9 +44,3 @@ abbrev pub NextWord : Acceptor → List ℕ → ℕ → Option ℕ → Type 0
 NextWord f set from None = (x : ℕ) → from ≤ x → subset_step f set x ≡ none
 NextWord f set from (Some y) =
     (from ≤ y) × (y < f.words) × ((x : ℕ) → from ≤ x → x < y → subset_step f set x ≡ none) × ((to : List ℕ) × (subset_step f set y ≡ some to))
-
--- the lesser of two numbers that may not be there
-abbrev pub lesser_of : Option ℕ → Option ℕ → Option ℕ
-lesser_of None b = b
-lesser_of (Some x) None = Some x
-lesser_of (Some x) (Some y) = Some (min x y)

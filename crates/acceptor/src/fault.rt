@@ -13,12 +13,12 @@ pub enum TurnFault {
     UnknownWord(u16),
 }
 
-impl TurnFault {
-    /// The number, layer and place of the fault.
-    pub fn refusal(self) -> Refusal
-        ensures { result ≡ refusal_of self }
-    {
-        match self {
+/// The number, layer and place of the fault.
+impl From<TurnFault> for Refusal {
+    ghost from_gives = { λ f r. r ≡ refusal_of f };
+
+    fn from(fault: TurnFault) -> Refusal {
+        match fault {
             TurnFault::Unbegun => Refusal {
                 number: 20,
                 layer: 6,

@@ -4,16 +4,15 @@ ghost use Rattle.theory.specs.Flattening.{Acceptor as Meant};
 ghost use Rattle.pga.specs.Files.{IsFile};
 ghost use Rattle.acceptor.specs.Flats.{acceptor_of, Opened};
 
-use crate::rows::{Arcs, JUMP_SIZE, Jumps, cut, number_or_zero};
+use crate::rows::{Arcs, Jumps, cut, number_or_zero};
 use fields::fault::AcceptorFault;
 use fields::format::ARC_SIZE;
 use pga::check::check_file;
+use pga::format::{ARCS_AT, JUMP_SIZE};
 use table::numbers::NodeNo;
 
-/// Where the arcs begin; the jumps follow them.
-const ARCS_AT: usize = 15;
-
 /// The acceptor of a file: how many words and nodes it has, the final node, and the parts of the file's bytes that hold its arcs and jumps.
+// That it fits is no ghost field: `read` takes any bytes, so each call says what it promises of a checked file.
 #[derive(Clone, Copy)]
 pub struct Flat<'a> {
     words: u16,
@@ -40,6 +39,7 @@ impl<'a> Flat<'a> {
     }
 
     /// The acceptor of these bytes, or the first fault of what is no acceptor's file.
+    // Beside `Subset::open`: a trait for both would have check, reading and laws as members, for two lines.
     pub fn open(file: &'a [u8]) -> Result<Flat<'a>, AcceptorFault>
         ensures { Opened file.now result }
     {

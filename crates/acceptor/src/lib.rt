@@ -3,7 +3,6 @@
 
 pub mod fault;
 pub mod flat;
-pub mod rising;
 pub mod rows;
 pub mod running;
 pub mod subset;

@@ -11,10 +11,8 @@ use crate::rows::{Arcs, cut, number_or_zero};
 use fields::fault::AcceptorFault;
 use fields::format::ARC_SIZE;
 use pgd::check::check_file;
+use pgd::format::FINALS_AT;
 use table::numbers::StateNo;
-
-/// Where the bytes of the states begin; the arcs follow them.
-const FINALS_AT: usize = 11;
 
 /// The determinised acceptor of a file: how many words it has, and the parts of the file's bytes that hold a byte for each state and the arcs.
 #[derive(Clone, Copy)]
@@ -50,11 +48,10 @@ impl<'a> Subset<'a> {
     fn is_final(&self, state: StateNo) -> bool
         ensures { Decides result (get_elem? (finals_of self.now.finals.now) state.0 ≡ some true) }
     {
-        let at = state.0 as usize;
-        if at >= self.finals.len() {
-            return false;
+        match self.finals.get(state.0 as usize) {
+            Some(flag) => *flag == 1,
+            None => false,
         }
-        self.finals[at] == 1
     }
 }
 

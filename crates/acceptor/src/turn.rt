@@ -7,6 +7,7 @@ use crate::fault::TurnFault;
 use crate::running::Acceptor;
 
 /// Where a turn stands: a begun turn holds the position to which its words led.
+// No `Option`: the turn is matched by a condition of its own and the event together, and another condition may join these two.
 #[derive(Clone, Copy, PartialEq, Eq, Debug)]
 pub enum Condition<P> {
     Unbegun,
@@ -69,11 +70,12 @@ pub fn accepts<A: Acceptor>(acceptor: &A, sentence: &[u16]) -> Result<bool, Turn
 {
     let mut turn = Condition::Unbegun;
     tell(acceptor, &mut turn, Event::Begin)?;
+    // A loop: the words are told to one turn, and of a closure that changes it nothing is known after the call.
     for word in sentence {
         tell(acceptor, &mut turn, Event::Word(*word))?;
     }
-    match tell(acceptor, &mut turn, Event::End)? {
-        Told::Judged(verdict) => Ok(verdict),
-        Told::Begun | Told::Taken => unreachable(),
-    }
+    let Told::Judged(verdict) = tell(acceptor, &mut turn, Event::End)? else {
+        unreachable!()
+    };
+    Ok(verdict)
 }

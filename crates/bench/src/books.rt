@@ -1,4 +1,6 @@
 //! Books near the ceilings.
+ghost use Rattle.std.specs.Prelude.{◌<◌};
+
 use book::{BookFault, add, blank};
 
 /// As many rules as a book may have, over 1,000 words: 4,096 dotted rules, most of them in state 0.
@@ -28,26 +30,21 @@ pub fn few_nodes(table: &mut [u16]) -> Result<usize, BookFault> {
 /// Names that lead to one another in turn, each with one rule for each word.
 fn chained(table: &mut [u16], names: u16, words: u16) -> Result<usize, BookFault> {
     let mut used = blank(table, words, names, words)?;
-    let mut next = 0;
     for name in 0..names {
-        used = add_rules(table, name.wrapping_add(words), names, words, &mut next)?;
+        used = add_rules(table, name, names, words)?;
     }
     Ok(used)
 }
 
-/// The rules of the name `left`, one for each word; `next` counts the names that they lead to.
-fn add_rules(
-    table: &mut [u16],
-    left: u16,
-    names: u16,
-    words: u16,
-    next: &mut u16,
-) -> Result<usize, BookFault> {
+/// The rules of one name, one for each word. All rules, name by name, lead to the names in turn.
+fn add_rules(table: &mut [u16], name: u16, names: u16, words: u16) -> Result<usize, BookFault>
+    requires { name < names }
+{
+    let left = words.wrapping_add(name);
     let mut used = 0;
     for word in 0..words {
-        used = add(table, left, &[word, words.wrapping_add(*next)])?;
-        let after = (*next).wrapping_add(1);
-        *next = if after < names { after } else { 0 };
+        let next = name.wrapping_mul(words).wrapping_add(word) % names;
+        used = add(table, left, &[word, words.wrapping_add(next)])?;
     }
     Ok(used)
 }

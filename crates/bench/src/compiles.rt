@@ -1,8 +1,8 @@
 //! The call compile, timed under each policy.
-use compiler::compile::{Workspace, compile_book};
+use book::Refusal;
+use compiler::compile::compile_book;
 use compiler::fault::CompileFault;
-use finding::moves::Move;
-use flattening::jump::Jump;
+use compiler::tables::Tables;
 use pga::listing::Counts;
 use policies::both::Both;
 use policies::last::{Depth, Last};
@@ -10,15 +10,20 @@ use policy::one_class::OneClass;
 use policy::path::Path;
 use policy::stacks::Policy;
 use std::time::Instant;
-use table::numbers::{ClassNo, NodeNo, StateNo};
-use table::sets::ItemSet;
-use unfolding::node::Node;
 
 /// The longest acceptor file: 15 bytes, then six for each arc and four for each jump.
 const LONGEST: usize = 163_855;
 
 /// Bytes of the working tables at their ceilings: 512 for a state, six for a move, four for a node or a jump.
 const TABLE_BYTES: usize = 802_816;
+
+/// The policies that remember the last states left.
+const DEPTHS: [(&str, Depth); 4] = [
+    ("last-1", Depth::One),
+    ("last-2", Depth::Two),
+    ("last-3", Depth::Three),
+    ("last-4", Depth::Four),
+];
 
 /// What compile answered, and after how many milliseconds.
 #[derive(Clone, Copy)]
@@ -33,33 +38,9 @@ fn time_compile<P: Policy>(
     book: &[u16],
     policy: &mut P,
 ) -> anyhow::Result<Timed> {
-    let mut states = [ItemSet::empty(); 1024];
-    let mut moves = [Move {
-        from: StateNo(0),
-        symbol: 0,
-        to: StateNo(0),
-    }; 16384];
-    let mut nodes = [Node {
-        state: StateNo(0),
-        class: ClassNo(0),
-    }; 4096];
-    let mut unfolded = [Move {
-        from: NodeNo(0),
-        symbol: 0,
-        to: NodeNo(0),
-    }; 16384];
-    let mut jumps = [Jump {
-        from: NodeNo(0),
-        to: NodeNo(0),
-    }; 16384];
+    let mut tables = Tables::<1024, 16384, 4096, 16384>::new();
     let mut out = [0; LONGEST];
-    let work = Workspace {
-        states: &mut states,
-        moves: &mut moves,
-        nodes: &mut nodes,
-        unfolded: &mut unfolded,
-        jumps: &mut jumps,
-    };
+    let work = tables.lend();
     let start = Instant::now(rt)?;
     let made = compile_book(book, policy, work, &mut out);
     let taken = start.elapsed(rt)?.as_millis();
@@ -75,7 +56,7 @@ fn tell(rt: &HostRuntime, name: &str, timed: Timed) -> anyhow::Result<()> {
             c.nodes, c.unfolded, c.arcs, c.jumps
         )?,
         Err(fault) => {
-            let refusal = fault.refusal();
+            let refusal = Refusal::from(fault);
             println!(rt; "  {name}: {refusal}")?;
         }
     }
@@ -87,29 +68,9 @@ fn tell(rt: &HostRuntime, name: &str, timed: Timed) -> anyhow::Result<()> {
 pub fn under_each(rt: &HostRuntime, book: &[u16]) -> anyhow::Result<()> {
     tell(rt, "one-class", time_compile(rt, book, &mut OneClass)?)?;
     tell(rt, "path", time_compile(rt, book, &mut Path::new())?)?;
-    tell(
-        rt,
-        "last-1",
-        time_compile(rt, book, &mut Last::new(Depth::One))?,
-    )?;
-    tell(
-        rt,
-        "last-2",
-        time_compile(rt, book, &mut Last::new(Depth::Two))?,
-    )?;
-    tell(
-        rt,
-        "last-3",
-        time_compile(rt, book, &mut Last::new(Depth::Three))?,
-    )?;
-    tell(
-        rt,
-        "last-4",
-        time_compile(rt, book, &mut Last::new(Depth::Four))?,
-    )?;
-    tell(
-        rt,
-        "path and last-1",
-        time_compile(rt, book, &mut Both::new(Path::new(), Last::new(Depth::One)))?,
-    )
+    for (name, depth) in DEPTHS {
+        tell(rt, name, time_compile(rt, book, &mut Last::new(depth))?)?;
+    }
+    let mut both = Both::new(Path::new(), Last::new(Depth::One));
+    tell(rt, "path and last-1", time_compile(rt, book, &mut both)?)
 }

@@ -5,12 +5,11 @@
 mod books;
 mod compiles;
 
-use book::BookFault;
+use book::{BookFault, Refusal};
 use finding::moves::Move;
 use machine::machine::characteristic;
 use std::io::Read;
 use std::time::Instant;
-use table::numbers::StateNo;
 use table::sets::ItemSet;
 
 /// Room for every book.
@@ -28,23 +27,15 @@ fn time_machine(
         return Ok(());
     }
     let mut states = [ItemSet::empty(); 1024];
-    let none = Move {
-        from: StateNo(0),
-        symbol: 0,
-        to: StateNo(0),
-    };
-    let mut moves = [none; 16384];
+    let mut moves = [Move::default(); 16384];
     let start = Instant::now(rt)?;
     let found = characteristic(table, &mut states, &mut moves);
     let taken = start.elapsed(rt)?.as_millis();
     match found {
         Ok(m) => println!(rt; "{name}: {} states, {} moves", m.states, m.moves)?,
         Err(fault) => {
-            let refusal = fault.refusal();
-            println!(rt;
-                "{name}: refused {} layer {} place {}",
-                refusal.number, refusal.layer, refusal.place
-            )?;
+            let refusal = Refusal::from(fault);
+            println!(rt; "{name}: {refusal}")?;
         }
     }
     eprintln!(rt; "{name}: machine in {taken} ms")?;
@@ -65,29 +56,15 @@ fn time_book(
 /// Times the book that a letter of the standard input asks for; other letters ask for none.
 fn time_asked(rt: &HostRuntime, letter: u8) -> anyhow::Result<()> {
     let mut table = [0; ENTRIES];
-    match letter {
-        b'i' => {
-            let made = books::many_items(&mut table);
-            time_book(rt, "4,096 dotted rules", &table, made)
-        }
-        b's' => {
-            let made = books::many_states(&mut table);
-            time_book(rt, "near 1,024 states", &table, made)
-        }
-        b'n' => {
-            let made = books::many_nodes(&mut table);
-            time_book(rt, "near 4,096 nodes", &table, made)
-        }
-        b'm' => {
-            let made = books::many_moves(&mut table);
-            time_book(rt, "16,384 moves", &table, made)
-        }
-        b'q' => {
-            let made = books::few_nodes(&mut table);
-            time_book(rt, "a small book", &table, made)
-        }
-        _ => Ok(()),
-    }
+    let (name, made) = match letter {
+        b'i' => ("4,096 dotted rules", books::many_items(&mut table)),
+        b's' => ("near 1,024 states", books::many_states(&mut table)),
+        b'n' => ("near 4,096 nodes", books::many_nodes(&mut table)),
+        b'm' => ("16,384 moves", books::many_moves(&mut table)),
+        b'q' => ("a small book", books::few_nodes(&mut table)),
+        _ => return Ok(()),
+    };
+    time_book(rt, name, &table, made)
 }
 
 /// Times the books asked for, one after the other.

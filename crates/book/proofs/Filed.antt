@@ -1,8 +1,7 @@
 -- The bytes of a book file.
-use Rattle.std.proofs.Common.{◌≡◌, ℕ, ◌+◌, ◌-◌, ◌*◌, ◌<◌, List, [], ◌∷◌, ◌++◌, length, take, drop, set, codes, sym, ap, ◌∙◌, subst, append-nil, arith}
-use borrow.Rule.Slice.PartMut.{put_mid, post_of}
+use Rattle.std.proofs.Common.{◌≡◌, ℕ, ◌+◌, ◌*◌, ◌<◌, List, [], ◌∷◌, ◌++◌, length, take, drop, sym, ap, ◌∙◌, subst, append-nil, arith}
 use Rattle.std.specs.List.{flat_map, AllByRecursion}
-use Rattle.std.proofs.lemmas.List.{length-append, drop_all, take_at, nil_from_length}
+use Rattle.std.proofs.lemmas.List.{length-append, take_at, nil_from_length}
 use Rattle.book.specs.Grammar.{Grammar}
 use Rattle.book.specs.Reading.{numbers}
 use Rattle.book.specs.Tables.{rule_entries, header, entries, used, Holds}
@@ -16,25 +15,6 @@ length_all g = omega (arith, length-append (header g (length g.rules)) (flat_map
 
 pub take_entries : {t : List ℕ} {g : Grammar} → Holds t g → take (used g) t ≡ entries g
 take_entries {t} {g} h = ap (take (used g)) h.is ∙ take_at (entries g) h.rest (used g) (length_all g)
-
--- mark, version and numbers, as they are written one after the other
-pub file_written : (out xs ys es : List ℕ) (k : ℕ) → length out ≡ 5 + 2 * length es → xs ≡ codes "PGB" → ys ≡ flat_map bytes_of es
-    → k ≡ length (set (set (xs ++ post_of 0 3 out) 3 1) 4 0) - 5
-    → put_mid 5 k (set (set (xs ++ post_of 0 3 out) 3 1) 4 0) ys ≡ file_of es
-file_written out xs ys es k long x y e =
-    subst (λ m. put_mid 5 m (set (set (xs ++ post_of 0 3 out) 3 1) 4 0) ys ≡ file_of es) (sym e)
-    (subst (λ m. put_mid 5 (length (set (set (m ++ post_of 0 3 out) 3 1) 4 0) - 5) (set (set (m ++ post_of 0 3 out) 3 1) 4 0) ys ≡ file_of es) (sym x) (shape out long))
-  where
-    shape : (o : List ℕ) → length o ≡ 5 + 2 * length es
-        → put_mid 5 (length (set (set (codes "PGB" ++ post_of 0 3 o) 3 1) 4 0) - 5) (set (set (codes "PGB" ++ post_of 0 3 o) 3 1) 4 0) ys ≡ file_of es
-    shape [] l = absurd (omega arith)
-    shape (a ∷ []) l = absurd (omega arith)
-    shape (a ∷ (b ∷ [])) l = absurd (omega arith)
-    shape (a ∷ (b ∷ (c ∷ []))) l = absurd (omega arith)
-    shape (a ∷ (b ∷ (c ∷ (d ∷ [])))) l = absurd (omega arith)
-    shape (a ∷ (b ∷ (c ∷ (d ∷ (f ∷ rest))))) l =
-        ap (λ m. 80 ∷ (71 ∷ (66 ∷ (1 ∷ (0 ∷ (ys ++ m)))))) (drop_all _ rest (omega arith))
-        ∙ ap (λ m. 80 ∷ (71 ∷ (66 ∷ (1 ∷ (0 ∷ m))))) (append-nil ys ∙ y)
 
 -- a marked file is that of its numbers
 pub file_is : (file : List ℕ) → Marked file → AllByRecursion (λ b. b < 256) file → file ≡ file_of (numbers (drop 5 file))

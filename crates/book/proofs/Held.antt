@@ -3,7 +3,6 @@ use Rattle.std.proofs.Common.{◌≡◌, ℕ, zero, suc, ◌+◌, ◌<◌, ◌�
 use Rattle.std.specs.List.{flat_map}
 use Rattle.std.proofs.lemmas.List.{get_or-take, length-take-le, take-append-drop, length-append, length_push, drop-drop, flat_map_more}
 use Rattle.std.proofs.ByRecursion.{All-from_get_or, All-push, All-weaker}
-use Rattle.book.specs.declared.reader.Header.{Header}
 use Rattle.book.specs.declared.reader.Summary.{Summary}
 use Rattle.book.specs.Grammar.{Rule, rule, Grammar, symbols, with_rule}
 use Rattle.book.specs.Tables.{dots, items, FitRule, Fit, rule_entries, header, entries, used, Begins, Holds}
@@ -76,7 +75,7 @@ module _ (g : Grammar) where
 
 -- the header
 
-pub header_parts : (es : List ℕ) (h : Header) → Headed es h → es ≡ header (record { words = h.words; names = h.names; start = h.start; rules = [] }) h.rules ++ drop 4 es
+pub header_parts : (es : List ℕ) (h : Summary) → Headed es h → es ≡ header (record { words = h.words; names = h.names; start = h.start; rules = [] }) h.rules ++ drop 4 es
 header_parts [] h s = absurd (let k = (s.sound 0 (omega arith)).0 in omega arith)
 header_parts (a ∷ []) h s = absurd (let k = (s.sound 1 (omega arith)).0 in omega arith)
 header_parts (a ∷ (b ∷ [])) h s = absurd (let k = (s.sound 2 (omega arith)).0 in omega arith)
@@ -84,7 +83,7 @@ header_parts (a ∷ (b ∷ (c ∷ []))) h s = absurd (let k = (s.sound 3 (omega 
 header_parts (a ∷ (b ∷ (c ∷ (d ∷ es)))) h s =
     let p : h.words ≡ a = s.words in let q : h.names ≡ b = s.names in let r : h.start ≡ c = s.start in let t : h.rules ≡ d = s.rules in cc
 
-pub read_none : (es : List ℕ) (h : Header) → Headed es h → ReadTo es h 0 4 2
+pub read_none : (es : List ℕ) (h : Summary) → Headed es h → ReadTo es h 0
 read_none es h s =
     let g : Grammar = record { words = h.words; names = h.names; start = h.start; rules = [] } in
     let a = (s.sound 0 (omega arith)).1 in let b = (s.sound 1 (omega arith)).1 in let c = (s.sound 2 (omega arith)).1 in let d = (s.sound 3 (omega arith)).1 in
@@ -95,33 +94,35 @@ read_none es h s =
         fit = record { words = (omega arith, omega arith); names = (omega arith, omega arith); start = (omega arith, omega arith); few = omega arith; each = tt; small = omega arith };
         most = omega arith;
         so_far = omega arith;
-        is = header_parts es h s;
+        is = header_parts es h s ∙ ap (λ n. header g h.rules ++ drop n es) (sym s.takes);
       };
       number = refl;
       start = refl;
-      stands = record { words = refl; names = refl; takes = refl; has = refl };
+      stands = record { words = refl; names = refl; takes = sym s.takes; has = sym s.has };
     }
 
 -- one rule more
 
-pub read_more : (es : List ℕ) (h : Header) (i at count n : ℕ) (r : ReadTo es h i at count) → i < h.rules → RuleChecked r.grammar (drop at es) (Ok n) → ReadTo es h (i + 1) (at + (2 + n)) (count + (n + 1))
-read_more es h i at count n r below (is, sound, room) =
+pub read_more : (es : List ℕ) (s t : Summary) (i : ℕ) (r : ReadTo es s i) → i < s.rules → RuleChecked r.grammar s (drop s.used es) (Ok t) → ReadTo es t (i + 1)
+read_more es s t i r below (is, sound, room) =
     let g = r.grammar in
+    let at : ℕ = s.used in
     let xs : List ℕ = drop at es in
+    let n : ℕ = get_or xs 1 0 in
     let new : Rule = first_rule xs in
     let (fit, parts, long) = sound_rule g xs sound in
     let b = r.begins in
-    let s = r.stands in
     let m = r.number in
     let most = b.most in
-    let rest-is : drop (size xs) xs ≡ drop (at + (2 + n)) es = drop-drop (size xs) at es ∙ ap (λ k. drop k es) (omega arith) in
-    record {
+    let rest-is : drop (size xs) xs ≡ drop (at + (2 + n)) es = drop-drop (size xs) at es in
+    subst (λ u. ReadTo es u (i + 1)) (sym is)
+    (record {
       grammar = with_rule g new;
       begins = record {
         fit = fit_push g new b.fit fit (omega arith) (omega arith);
         most = b.most;
         so_far = omega (arith, length_push g.rules new);
-        is = b.is ∙ ap (λ l. header g h.rules ++ l)
+        is = b.is ∙ ap (λ l. header g s.rules ++ l)
             (ap (λ l. flat_map rule_entries g.rules ++ l) (parts ∙ ap (λ l. rule_entries new ++ l) rest-is)
             ∙ sym (append_assoc (flat_map rule_entries g.rules) (rule_entries new) (drop (at + (2 + n)) es))
             ∙ ap (λ l. l ++ drop (at + (2 + n)) es) (sym (entries_push g.rules new)));
@@ -129,17 +130,18 @@ read_more es h i at count n r below (is, sound, room) =
       number = omega (arith, length_push g.rules new);
       start = r.start;
       stands = record {
-        words = s.words;
-        names = s.names;
-        takes = let u = s.takes in omega (arith, used_push g new);
-        has = let u = s.has in omega (arith, dots_push g.rules new);
+        words = r.stands.words;
+        names = r.stands.names;
+        takes = let u = r.stands.takes in omega (arith, used_push g new);
+        has = let u = r.stands.has in omega (arith, dots_push g.rules new);
       };
-    }
+    })
 
-pub read_bound : (es : List ℕ) (h : Header) (i at count : ℕ) → ReadTo es h i at count → (at ≤ 8192) × (count ≤ 4096)
-read_bound es h i at count r =
-    let s = r.stands in let t = s.takes in let u = s.has in let f = r.begins.fit.small in
-    (omega (arith, used_bound r.grammar r.begins.fit), omega arith)
+pub read_bound : (es : List ℕ) (s : Summary) (i : ℕ) → ReadTo es s i → (s.used ≤ 8192) × (s.items ≤ 4096) × (s.words ≤ 1024) × (s.names ≤ 1024)
+read_bound es s i r =
+    let k = r.stands in let t = k.takes in let u = k.has in let w = k.words in let n = k.names in
+    let f = r.begins.fit in let m = f.small in
+    (omega (arith, used_bound r.grammar f), omega arith, omega (arith, f.words.1), omega (arith, f.names.1))
 
 pub begins_holds : {t : List ℕ} {n : ℕ} {g : Grammar} {rest : List ℕ} → Begins t n g rest → length g.rules ≡ n → Holds t g
 begins_holds {t} {n} {g} {rest} b e =
@@ -149,13 +151,22 @@ begins_holds {t} {n} {g} {rest} b e =
       is = b.is ∙ ap (λ k. header g k ++ (flat_map rule_entries g.rules ++ rest)) (sym e);
     }
 
-pub read_all : (es : List ℕ) (h : Header) (i at count : ℕ) → ReadTo es h i at count → h.rules ≤ i → Checked es (Ok (record { words = h.words; names = h.names; start = h.start; rules = h.rules; used = at; items = count }))
-read_all es h i at count r end =
-    let g = r.grammar in let s = r.stands in
+pub read_all : (es : List ℕ) (s : Summary) (i : ℕ) → ReadTo es s i → s.rules ≤ i → Checked es (Ok s)
+read_all es s i r end =
+    let g = r.grammar in let k = r.stands in
     let l = r.begins.so_far in let m = r.number in
-    let whole : length g.rules ≡ h.rules = omega arith in
-    let a = s.words in let b = s.names in let c = r.start in let d = s.takes in let e = s.has in
-    (g, begins_holds r.begins whole, (let k = whole in cc))
+    let whole : length g.rules ≡ s.rules = omega arith in (
+      g,
+      begins_holds r.begins whole,
+      (λ j. record {
+        words = sym k.words j;
+        names = sym k.names j;
+        start = sym r.start j;
+        rules = sym whole j;
+        used = sym k.takes j;
+        items = sym k.has j;
+      }),
+    )
 
 -- what a reader knows of a book whose check passed
 pub record Known (es : List ℕ) (s : Summary) : Type 0 where

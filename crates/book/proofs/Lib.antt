@@ -1,11 +1,11 @@
 pub mod Numbers
 pub mod Headers
-pub mod Rules
+pub mod NextRule
 pub mod Held
 pub mod Unique
 pub mod Writes
 pub mod Derivations
 pub mod Sides
 pub mod Places
-pub mod Walk
+pub mod EachRule
 pub mod Filed

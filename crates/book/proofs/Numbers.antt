@@ -1,7 +1,10 @@
 -- The 16-bit numbers of a list of bytes.
-use Rattle.std.proofs.Common.{◌≡◌, ℕ, zero, suc, ◌+◌, ◌*◌, ◌/◌, ◌%◌, ◌<◌, List, [], ◌∷◌, ◌++◌, length, get_or, take, set, sym, refl, ap, ◌∙◌, append_assoc, arith}
+use Rattle.std.proofs.Common.{◌≡◌, ℕ, suc, ◌+◌, ◌-◌, ◌*◌, ◌/◌, ◌%◌, ◌<◌, List, [], ◌∷◌, ◌++◌, map, length, get_or, take, drop, sym, refl, ap, ◌∙◌, append_assoc, arith}
+use borrow.Rule.Slice.PartMut.{put_mid}
+use Rattle.std.specs.Int.{w16, from_le_bytes}
 use Rattle.std.specs.List.{flat_map, AllByRecursion}
-use Rattle.std.proofs.lemmas.List.{length-set, take_more, take_more_set, flat_map_more}
+use Rattle.std.specs.Simd.{first_chunks}
+use Rattle.std.proofs.lemmas.List.{length-append, length-take-le, take_at, take_more, flat_map_more}
 use Rattle.book.specs.Files.{bytes_of}
 use Rattle.book.specs.Reading.{numbers}
 
@@ -10,33 +13,23 @@ length_numbers [] = refl
 length_numbers (low ∷ []) = refl
 length_numbers (low ∷ (high ∷ rest)) = omega (arith, length_numbers rest)
 
-pub getD_numbers : (bs : List ℕ) (i : ℕ) → i < length bs / 2 → get_or (numbers bs) i 0 ≡ get_or bs (2 * i) 0 + 256 * get_or bs (2 * i + 1) 0
-getD_numbers [] i h = absurd (omega arith)
-getD_numbers (low ∷ []) i h = absurd (omega arith)
-getD_numbers (low ∷ (high ∷ rest)) zero h = refl
-getD_numbers (low ∷ (high ∷ rest)) (suc i) h =
-    let e : 2 * suc i ≡ suc (suc (2 * i)) = omega arith in
-    let f : 2 * suc i + 1 ≡ suc (suc (2 * i + 1)) = omega arith in
-    rw (f, e) (getD_numbers rest i (omega arith))
+-- the numbers are those of the pairs of bytes
+pub numbers_pairs : (bs : List ℕ) → numbers bs ≡ map (from_le_bytes w16) (first_chunks 2 (length bs / 2) bs)
+numbers_pairs [] = refl
+numbers_pairs (low ∷ []) = refl
+numbers_pairs (low ∷ (high ∷ rest)) =
+    let e : suc (suc (length rest)) / 2 ≡ suc (length rest / 2) = omega arith in
+    let v : low + 256 * high ≡ from_le_bytes w16 (low ∷ (high ∷ [])) = omega arith in
+    rw e ((λ i. v i ∷ numbers_pairs rest i))
 
--- one number more
-
-pub numbers_more : (bs out : List ℕ) (i : ℕ) → i < length out → length bs ≡ 2 * length out → take i out ≡ take i (numbers bs)
-    → take (i + 1) (set out i (get_or bs (2 * i) 0 + 256 * get_or bs (2 * i + 1) 0)) ≡ take (i + 1) (numbers bs)
-numbers_more bs out i h long e =
-    take_more_set out i _ h ∙ ap (λ l. l ++ ((get_or bs (2 * i) 0 + 256 * get_or bs (2 * i + 1) 0) ∷ [])) e
-    ∙ ap (λ x. take i (numbers bs) ++ (x ∷ [])) (sym (getD_numbers bs i (omega arith)))
-    ∙ sym (take_more (numbers bs) i 0 (omega (arith, length_numbers bs)))
-
-pub bytes_more : (ns out : List ℕ) (i low high : ℕ) → i < length ns → length out ≡ 2 * length ns → low ≡ get_or ns i 0 % 256 → high ≡ get_or ns i 0 / 256
-    → take (2 * i) out ≡ flat_map bytes_of (take i ns) → take (2 * (i + 1)) (set (set out (2 * i) low) (2 * i + 1) high) ≡ flat_map bytes_of (take (i + 1) ns)
-bytes_more ns out i low high h long l u e =
-    let step : 2 * (i + 1) ≡ (2 * i + 1) + 1 = omega arith in
-    ap (λ n. take n (set (set out (2 * i) low) (2 * i + 1) high)) step
-    ∙ take_more_set (set out (2 * i) low) (2 * i + 1) high (omega (arith, length-set out (2 * i) low))
-    ∙ ap (λ l. l ++ (high ∷ [])) (take_more_set out (2 * i) low (omega arith) ∙ ap (λ l. l ++ (low ∷ [])) e)
-    ∙ append_assoc (flat_map bytes_of (take i ns)) (low ∷ []) (high ∷ [])
-    ∙ (λ j. flat_map bytes_of (take i ns) ++ (l j ∷ (u j ∷ [])))
+-- one number more is written
+pub bytes_more : (ns out ys : List ℕ) (i : ℕ) → i < length ns → length out ≡ 2 * length ns → ys ≡ bytes_of (get_or ns i 0)
+    → take (2 * i) out ≡ flat_map bytes_of (take i ns) → take (2 * (i + 1)) (put_mid (2 * i) (2 * i + 2 - 2 * i) out ys) ≡ flat_map bytes_of (take (i + 1) ns)
+bytes_more ns out ys i h long y e =
+    let rest : List ℕ = drop (2 * i + 2 - 2 * i) (drop (2 * i) out) in
+    ap (take (2 * (i + 1))) (sym (append_assoc (take (2 * i) out) ys rest))
+    ∙ take_at (take (2 * i) out ++ ys) rest (2 * (i + 1)) (omega (arith, length-append (take (2 * i) out) ys, length-take-le (2 * i) out (omega arith), ap length y))
+    ∙ (λ j. e j ++ y j)
     ∙ flat_map_more bytes_of [] (take i ns) (get_or ns i 0)
     ∙ ap (flat_map bytes_of) (sym (take_more ns i 0 h))
 

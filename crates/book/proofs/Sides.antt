@@ -1,8 +1,12 @@
 -- Right sides by their first and by their last symbol.
-use Rattle.std.proofs.Common.{◌≡◌, ℕ, ◌+◌, ◌-◌, ◌<◌, ◌≤◌, Bool, List, [], ◌∷◌, length, get_or, take, drop, Decides, sym, refl, ap, ◌∙◌, subst, arith}
+use Rattle.std.proofs.Common.{◌≡◌, ℕ, ◌+◌, ◌-◌, ◌<◌, ◌≤◌, Bool, true, false, MatchBool, List, [], ◌∷◌, length, get_or, take, drop, Decides, sym, refl, ap, ◌∙◌, subst, arith}
 use Rattle.std.specs.List.{AllByRecursion}
 use Rattle.std.proofs.lemmas.List.{take_at, take_more, length_push, take_all}
 use Rattle.book.specs.Shapes.{LeftSide, RightSide}
+
+pub by_cases : {P : Type 0} (r : Bool) → Decides r P → MatchBool r P (P → ⊥)
+by_cases true d = d.0 refl
+by_cases false d = λ p. absurd (let e : false ≡ true = d.1 p in cc)
 
 pub left_decides : (w : ℕ) (xs : List ℕ) (r : Bool) → 1 ≤ length xs → Decides r (AllByRecursion (λ y. y < w) (take (length xs - 1) (drop 1 xs))) → Decides r (LeftSide w xs)
 left_decides w [] r h d = absurd (omega arith)
@@ -11,9 +15,6 @@ left_decides w (x ∷ xs) r h d =
       (λ e y ys is. let t : xs ≡ ys = cc in subst (AllByRecursion (λ y. y < w)) (rest ∙ t) (d.0 e)),
       (λ f. d.1 (subst (AllByRecursion (λ y. y < w)) (sym rest) (f x xs refl))),
     )
-
-pub right_empty : (w : ℕ) (xs : List ℕ) → length xs ≡ 0 → RightSide w xs
-right_empty w xs h x ys is = absurd (omega (arith, ap length is, length_push ys x))
 
 pub right_decides : (w : ℕ) (xs : List ℕ) (r : Bool) → 1 ≤ length xs → Decides r (AllByRecursion (λ y. y < w) (take (length xs - 1) xs)) → Decides r (RightSide w xs)
 right_decides w xs r h d = (

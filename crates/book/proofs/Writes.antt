@@ -1,8 +1,7 @@
 -- What the writes of blank and add leave.
-use Rattle.std.proofs.Common.{◌≡◌, ℕ, suc, ◌+◌, ◌<◌, ◌≤◌, List, [], ◌∷◌, ◌++◌, length, take, drop, set, sym, refl, ap, ◌∙◌, subst, append_assoc, arith}
-use borrow.Rule.Slice.PartMut.{put_mid}
+use Rattle.std.proofs.Common.{◌≡◌, ℕ, suc, ◌+◌, ◌<◌, List, [], ◌∷◌, ◌++◌, length, take, drop, set, sym, refl, ap, ◌∙◌, subst, append_assoc, arith}
 use Rattle.std.specs.List.{flat_map}
-use Rattle.std.proofs.lemmas.List.{length-set, length-append, take_more_set, drop-drop, drop-set-lt, take_at, length_push}
+use Rattle.std.proofs.lemmas.List.{length-append, drop-set-lt, take_at, length_push}
 use Rattle.std.proofs.ByRecursion.{All-from_get_or}
 use Rattle.book.specs.Grammar.{Rule, rule, Grammar, symbols, with_rule}
 use Rattle.book.specs.Tables.{FitRule, Fit, rule_entries, header, entries, used, Holds}
@@ -25,26 +24,6 @@ bare_fit words names start s =
 -- the table begins with the grammar's entries, and the rest is as it was
 pub written : (t : List ℕ) (g : Grammar) → Fit g → Written t g (entries g ++ drop (used g) t) (used g)
 written t g f = record { holds = record { fit = f; rest = drop (used g) t; is = refl }; length_used = refl; is = refl }
-
--- three writes: the left side, the length, and the right side
-pub rule_written : (t : List ℕ) (at k a : ℕ) (xs ys : List ℕ) → at + (2 + length xs) ≤ length t → k ≡ length xs → ys ≡ xs
-    → put_mid (at + 2) k (set (set t at a) (at + 1) (length xs)) ys ≡ take at t ++ (rule_entries (rule a xs) ++ drop (at + (2 + length xs)) t)
-rule_written t at k a xs ys room e same =
-    let front₁ : take (at + 1) (set t at a) ≡ take at t ++ (a ∷ []) = take_more_set t at a (omega arith) in
-    let step : (at + 1) + 1 ≡ at + 2 = omega arith in
-    let front₂ : take (at + 2) (set (set t at a) (at + 1) (length xs)) ≡ (take at t ++ (a ∷ [])) ++ (length xs ∷ []) =
-    subst (λ i. take i (set (set t at a) (at + 1) (length xs)) ≡ (take at t ++ (a ∷ [])) ++ (length xs ∷ [])) step
-    (take_more_set (set t at a) (at + 1) (length xs) (omega (arith, length-set t at a)) ∙ ap (λ l. l ++ (length xs ∷ [])) front₁) in
-    let back : drop k (drop (at + 2) (set (set t at a) (at + 1) (length xs))) ≡ drop (at + (2 + length xs)) t =
-    drop-drop k (at + 2) (set (set t at a) (at + 1) (length xs))
-    ∙ drop-set-lt ((at + 2) + k) (set t at a) (at + 1) (length xs) (omega arith)
-    ∙ drop-set-lt ((at + 2) + k) t at a (omega arith)
-    ∙ ap (λ i. drop i t) (omega arith) in
-    ap (λ l. take (at + 2) (set (set t at a) (at + 1) (length xs)) ++ (l ++ drop k (drop (at + 2) (set (set t at a) (at + 1) (length xs))))) same
-    ∙ ap (λ l. l ++ (xs ++ drop k (drop (at + 2) (set (set t at a) (at + 1) (length xs))))) front₂
-    ∙ ap (λ l. ((take at t ++ (a ∷ [])) ++ (length xs ∷ [])) ++ (xs ++ l)) back
-    ∙ append_assoc (take at t ++ (a ∷ [])) (length xs ∷ []) (xs ++ drop (at + (2 + length xs)) t)
-    ∙ append_assoc (take at t) (a ∷ []) (length xs ∷ (xs ++ drop (at + (2 + length xs)) t))
 
 -- the entries that add leaves: the count one higher, and the rule after the last
 pub added_entries : (t : List ℕ) (g : Grammar) (r : Rule) → Holds t g

@@ -1,5 +1,5 @@
 //! Where a book's entries may lie: in a table, in a file, or in the arguments of a call.
-ghost use Rattle.std.specs.Prelude.{ℕ, List, ◌∷◌, length};
+ghost use Rattle.std.specs.Prelude.{ℕ, List, ◌∷◌, ◌++◌, length};
 ghost use Rattle.book.specs.Reading.{EntryAt, numbers};
 
 /// A list of entries that can be read one by one.
@@ -19,30 +19,27 @@ impl Entries for TableEntries<'_> {
     ghost entries = { λ s. s.0.now };
 
     fn entry(&self, i: usize) -> Option<usize> {
-        if i < self.0.len() {
-            Some(self.0[i] as usize)
-        } else {
-            None
-        }
+        self.0.get(i).copied().map(usize::from)
     }
 }
 
-/// The entries of one rule: its left side, the length of its right side, and the right side.
+/// The entries of a book, and after them those of one rule more: its left side, the length of its right side, and the right side.
 #[derive(Clone, Copy)]
-pub struct RuleEntries<'a> {
+pub struct AppendedEntries<'a> {
+    pub book: &'a [u16],
     pub left: u16,
     pub right: &'a [u16],
 }
 
-impl Entries for RuleEntries<'_> {
-    ghost entries = { λ s. s.left ∷ (length s.right.now ∷ s.right.now) };
+impl Entries for AppendedEntries<'_> {
+    ghost entries = { λ s. s.book.now ++ (s.left ∷ (length s.right.now ∷ s.right.now)) };
 
     fn entry(&self, i: usize) -> Option<usize> {
-        match i {
-            0 => Some(self.left as usize),
-            1 => Some(self.right.len()),
-            _ if i - 2 < self.right.len() => Some(self.right[i - 2] as usize),
-            _ => None,
+        match i.checked_sub(self.book.len()) {
+            None => self.book.get(i).copied().map(usize::from),
+            Some(0) => Some(usize::from(self.left)),
+            Some(1) => Some(self.right.len()),
+            Some(k) => self.right.get(k - 2).copied().map(usize::from),
         }
     }
 }
@@ -55,10 +52,9 @@ impl Entries for FileEntries<'_> {
     ghost entries = { λ s. numbers s.0.now };
 
     fn entry(&self, i: usize) -> Option<usize> {
-        if i < self.0.len() / 2 {
-            Some(self.0[2 * i] as usize + 256 * self.0[2 * i + 1] as usize)
-        } else {
-            None
-        }
+        let (pairs, _) = self.0.as_chunks::<2>();
+        pairs
+            .get(i)
+            .map(|pair| usize::from(u16::from_le_bytes(*pair)))
     }
 }

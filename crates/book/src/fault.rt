@@ -5,6 +5,7 @@ ghost use Rattle.book.specs.Refusals.{refusal as refusal_of, refusal_line};
 use std::fmt;
 
 /// What a refusal tells: the number of its cause, its layer, and its place.
+// Numbers, and no enum: this is what is told outward and printed; the causes are the cases of the faults.
 #[derive(Clone, Copy, PartialEq, Eq, Debug)]
 pub struct Refusal {
     pub number: u8,
@@ -51,12 +52,12 @@ pub enum BookFault {
     OutputShort(usize),
 }
 
-impl BookFault {
-    /// The number, layer and place of the fault.
-    pub fn refusal(self) -> Refusal
-        ensures { result ≡ refusal_of self }
-    {
-        let (number, place) = match self {
+/// The number, layer and place of the fault.
+impl From<BookFault> for Refusal {
+    ghost from_gives = { λ f r. r ≡ refusal_of f };
+
+    fn from(fault: BookFault) -> Refusal {
+        let (number, place) = match fault {
             BookFault::EntryMissing(i) => (1, i),
             BookFault::HeaderRange(i) => (2, i),
             BookFault::LeftNotName(i) => (3, i),

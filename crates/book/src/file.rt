@@ -27,7 +27,7 @@ fn check_mark(file: &[u8]) -> Result<(), BookFault>
     if !file.starts_with(&MARK) {
         return Err(BookFault::WrongMark(0));
     }
-    if file[3] as u16 + 256 * file[4] as u16 != VERSION {
+    if u16::from_le_bytes([file[3], file[4]]) != VERSION {
         return Err(BookFault::WrongMark(3));
     }
     if file.len() % 2 == 0 {
@@ -37,31 +37,25 @@ fn check_mark(file: &[u8]) -> Result<(), BookFault>
 }
 
 /// Fills `out` with the numbers of as many pairs of bytes.
-pub fn read_numbers(bytes: &[u8], out: &mut [u16])
+fn read_numbers(bytes: &[u8], out: &mut [u16])
     requires { length bytes.now ≡ 2 * length out.old }
     ensures { out.new ≡ numbers bytes.now }
 {
-    for i in 0..out.len() {
-        out[i] = bytes[2 * i] as u16 + 256 * bytes[2 * i + 1] as u16;
+    let (pairs, _) = bytes.as_chunks::<2>();
+    // Written by index: of what is written through `out.iter_mut().zip(..)` a proof knows nothing afterwards.
+    for (i, pair) in pairs.iter().enumerate() {
+        out[i] = u16::from_le_bytes(*pair);
     }
 }
 
-/// The low byte and the high byte of a number.
-fn low_and_high(number: u16) -> (u8, u8)
-    ensures { (result.0 ≡ number % 256) × (result.1 ≡ number / 256) }
-{
-    ((number % 256) as u8, (number / 256) as u8)
-}
-
 /// Fills `out` with the two bytes of each number.
-pub fn write_numbers(numbers: &[u16], out: &mut [u8])
+fn write_numbers(numbers: &[u16], out: &mut [u8])
     requires { length out.old ≡ 2 * length numbers.now }
     ensures { out.new ≡ flat_map bytes_of numbers.now }
 {
-    for i in 0..numbers.len() {
-        let (low, high) = low_and_high(numbers[i]);
-        out[2 * i] = low;
-        out[2 * i + 1] = high;
+    // Written by index, for the same reason as in `read_numbers`.
+    for (i, number) in numbers.iter().enumerate() {
+        out[2 * i..2 * i + 2].copy_from_slice(&number.to_le_bytes());
     }
 }
 
@@ -78,7 +72,7 @@ pub fn load(file: &[u8], table: &mut [u16]) -> Result<usize, BookFault>
     if used > table.len() {
         return Err(BookFault::NoRoom(used));
     }
-    read_numbers(bytes, &mut table[0..used]);
+    read_numbers(bytes, &mut table[..used]);
     Ok(used)
 }
 
@@ -87,9 +81,8 @@ fn write_file(entries: &[u16], out: &mut [u8])
     requires { length out.old ≡ 5 + 2 * length entries.now }
     ensures { out.new ≡ file_of entries.now }
 {
-    out[0..3].copy_from_slice(&MARK);
-    out[3] = 1;
-    out[4] = 0;
+    out[..3].copy_from_slice(&MARK);
+    out[3..FRONT].copy_from_slice(&VERSION.to_le_bytes());
     write_numbers(entries, &mut out[FRONT..]);
 }
 
@@ -102,6 +95,6 @@ pub fn save(table: &[u16], file: &mut [u8]) -> Result<usize, BookFault>
     if file.len() < needed {
         return Err(BookFault::OutputShort(needed));
     }
-    write_file(&table[0..used], &mut file[0..needed]);
+    write_file(&table[..used], &mut file[..needed]);
     Ok(needed)
 }

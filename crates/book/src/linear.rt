@@ -1,10 +1,11 @@
 //! Whether a grammar is left-linear or right-linear: then the compiled filter is exact.
-ghost use Rattle.std.specs.Prelude.{◌≡◌, ◌+◌, ◌<◌, ◌≤◌, length, take, drop, Decides, slice_index};
+ghost use Rattle.std.specs.Prelude.{◌<◌, Decides};
 ghost use Rattle.std.specs.List.{AllByRecursion};
 ghost use Rattle.book.specs.Shapes.{LeftSide, RightSide, Shaped};
 
 use super::fault::BookFault;
 use super::reader::check;
+use super::rules::Rules;
 
 /// Whether all rules are left-linear, and whether all are right-linear.
 #[derive(Clone, Copy, PartialEq, Eq, Debug)]
@@ -17,12 +18,7 @@ pub struct Linearity {
 fn all_words(symbols: &[u16], words: usize) -> bool
     ensures { Decides result (AllByRecursion (λ x. x < words) symbols.now) }
 {
-    for x in symbols {
-        if *x as usize >= words {
-            return false;
-        }
-    }
-    true
+    symbols.iter().all(|x| usize::from(*x) < words)
 }
 
 /// Whether only the first symbol of a right side may be a name.
@@ -45,31 +41,14 @@ fn right_side(side: &[u16], words: usize) -> bool
     }
 }
 
-/// The right side of the rule that stands at `at`.
-fn side_at(table: &[u16], at: usize) -> &[u16]
-    requires { (at + 1 < length table.now) × (at + (2 + slice_index table.now (at + 1)) ≤ length table.now) }
-    ensures { result.now ≡ take (slice_index table.now (at + 1)) (drop (at + 2) table.now) }
-{
-    let length = table[at + 1] as usize;
-    &table[at + 2..at + 2 + length]
-}
-
 /// Whether all rules are left-linear, and whether all are right-linear.
 pub fn shape(table: &[u16]) -> Result<Linearity, BookFault>
     ensures { Shaped table.now result }
 {
     let book = check(table)?;
-    let mut left_linear = true;
-    let mut right_linear = true;
-    let mut at = 4;
-    for _i in 0..book.rules {
-        let side = side_at(table, at);
-        left_linear &= left_side(side, book.words);
-        right_linear &= right_side(side, book.words);
-        at += 2 + side.len();
-    }
+    let words = book.words;
     Ok(Linearity {
-        left: left_linear,
-        right: right_linear,
+        left: Rules::of(table, book).all(|rule| left_side(rule.right, words)),
+        right: Rules::of(table, book).all(|rule| right_side(rule.right, words)),
     })
 }

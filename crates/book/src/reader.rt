@@ -6,15 +6,6 @@ ghost use Rattle.book.specs.Checks.{Present, Between, HeaderChecked, SymbolsTo, 
 use super::entries::{Entries, TableEntries};
 use super::fault::BookFault;
 
-/// The four entries in front of the rules.
-#[derive(Clone, Copy)]
-pub struct Header {
-    pub words: usize,
-    pub names: usize,
-    pub start: usize,
-    pub rules: usize,
-}
-
 /// What a reader learns of a sound book: its header, how many entries it takes, and how many items it has.
 #[derive(Clone, Copy, PartialEq, Eq, Debug)]
 pub struct Summary {
@@ -26,112 +17,101 @@ pub struct Summary {
     pub items: usize,
 }
 
-/// Entry `i`, or the fault that the entry of index `place` is missing.
-fn present<E: Entries>(book: &E, i: usize, place: usize) -> Result<usize, BookFault>
-    ensures { Present (E.Entries.entries book.now) i place result }
+/// Entry `i`, or the fault that it is missing.
+fn present<E: Entries>(book: &E, i: usize) -> Result<usize, BookFault>
+    ensures { Present (E.Entries.entries book.now) i result }
 {
-    match book.entry(i) {
-        Some(v) => Ok(v),
-        None => Err(BookFault::EntryMissing(place)),
-    }
+    book.entry(i).ok_or(BookFault::EntryMissing(i))
 }
 
 /// Entry `i` of the header, which is to lie between `least` and `most`.
+// Not that of `fields`, which stands above the book: a book's faults are its own.
 fn in_range<E: Entries>(book: &E, i: usize, least: usize, most: usize) -> Result<usize, BookFault>
     ensures { Between (E.Entries.entries book.now) i least most result }
 {
-    match book.entry(i) {
-        Some(v) if least <= v && v <= most => Ok(v),
-        Some(_) => Err(BookFault::HeaderRange(i)),
-        None => Err(BookFault::EntryMissing(i)),
+    let entry = present(book, i)?;
+    if !(least..=most).contains(&entry) {
+        return Err(BookFault::HeaderRange(i));
     }
+    Ok(entry)
 }
 
-/// The header, each of its entries in its range.
-pub fn check_header<E: Entries>(book: &E) -> Result<Header, BookFault>
+/// The header, each of its entries in its range: the summary of the book with none of its rules read.
+pub fn check_header<E: Entries>(book: &E) -> Result<Summary, BookFault>
     ensures { HeaderChecked (E.Entries.entries book.now) result }
 {
     let words = in_range(book, 0, 1, 1024)?;
     let names = in_range(book, 1, 1, 1024)?;
     let start = in_range(book, 2, words, words + names - 1)?;
     let rules = in_range(book, 3, 0, 2048)?;
-    Ok(Header {
+    Ok(Summary {
         words,
         names,
         start,
         rules,
+        used: 4,
+        items: 2,
     })
 }
 
-/// The `n` entries from `at` on, each a symbol below `symbols`; faults are told from `place` on.
+/// The entries from `at` up to `end`, each a symbol below `symbols`.
 fn check_symbols<E: Entries>(
     book: &E,
     at: usize,
-    place: usize,
+    end: usize,
     symbols: usize,
-    n: usize,
 ) -> Result<(), BookFault>
-    requires { (at ≤ 65536) × (place ≤ 65536) × (n ≤ 16) }
-    ensures { MatchResult result (λ _. SymbolsTo (E.Entries.entries book.now) at symbols n)
-        (λ f. SymbolFault (E.Entries.entries book.now) at place symbols n f) }
+    ensures { MatchResult result (λ _. SymbolsTo (E.Entries.entries book.now) at symbols end)
+        (λ f. SymbolFault (E.Entries.entries book.now) at symbols end f) }
 {
-    for i in 0..n {
-        let symbol = present(book, at + i, place + i)?;
+    // An index: an entry is asked for by its index, and a fault tells it.
+    for i in at..end {
+        let symbol = present(book, i)?;
         if symbol >= symbols {
-            return Err(BookFault::SymbolUnknown(place + i));
+            return Err(BookFault::SymbolUnknown(i));
         }
     }
     Ok(())
 }
 
-/// The length of the right side of the rule that stands at `at`, as the next of a book with this header and so many
-/// items; faults are told from `place` on.
-pub fn check_rule<E: Entries>(
-    book: &E,
-    at: usize,
-    place: usize,
-    h: Header,
-    items: usize,
-) -> Result<usize, BookFault>
-    requires { (at ≤ 32768) × (place ≤ 32768) × (items ≤ 4096) × (h.words ≤ 1024) × (h.names ≤ 1024) }
-    ensures { (g : Grammar) → Stands g h place items → RuleChecked g (drop at (E.Entries.entries book.now)) result }
+/// The summary of the book with one rule more, the one that stands after what is read so far.
+pub fn check_rule<E: Entries>(book: &E, so_far: Summary) -> Result<Summary, BookFault>
+    requires { (so_far.used ≤ 32768) × (so_far.items ≤ 4096) × (so_far.words ≤ 1024) × (so_far.names ≤ 1024) }
+    ensures { (g : Grammar) → Stands g so_far → RuleChecked g so_far (drop so_far.used (E.Entries.entries book.now)) result }
 {
-    let symbols = h.words + h.names;
-    let left = present(book, at, place)?;
-    if left < h.words || left >= symbols {
-        return Err(BookFault::LeftNotName(place));
+    let at = so_far.used;
+    let symbols = so_far.words + so_far.names;
+    let left = present(book, at)?;
+    if left < so_far.words || left >= symbols {
+        return Err(BookFault::LeftNotName(at));
     }
-    let length = present(book, at + 1, place + 1)?;
+    let length = present(book, at + 1)?;
     if length > 16 {
-        return Err(BookFault::SideTooLong(place + 1));
+        return Err(BookFault::SideTooLong(at + 1));
     }
-    check_symbols(book, at + 2, place + 2, symbols, length)?;
-    if items + length + 1 > 4096 {
-        return Err(BookFault::TooManyItems(place));
+    let used = at + 2 + length;
+    check_symbols(book, at + 2, used, symbols)?;
+    let items = so_far.items + length + 1;
+    if items > 4096 {
+        return Err(BookFault::TooManyItems(at));
     }
-    Ok(length)
+    Ok(Summary {
+        used,
+        items,
+        ..so_far
+    })
 }
 
 /// Whether the entries hold a grammar: its summary, or the first fault.
 pub fn check_entries<E: Entries>(book: &E) -> Result<Summary, BookFault>
     ensures { Checked (E.Entries.entries book.now) result }
 {
-    let h = check_header(book)?;
-    let mut used = 4;
-    let mut items = 2;
-    for _i in 0..h.rules {
-        let length = check_rule(book, used, used, h, items)?;
-        used += 2 + length;
-        items += length + 1;
+    let header = check_header(book)?;
+    let mut so_far = header;
+    for _i in 0..header.rules {
+        so_far = check_rule(book, so_far)?;
     }
-    Ok(Summary {
-        words: h.words,
-        names: h.names,
-        start: h.start,
-        rules: h.rules,
-        used,
-        items,
-    })
+    Ok(so_far)
 }
 
 /// The summary of the grammar that a table holds, or the table's first fault.

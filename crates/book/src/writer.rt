@@ -1,33 +1,26 @@
 //! Making a book: blank and add.
 ghost use Rattle.std.specs.Prelude.{◌≡◌, ◌+◌, ◌<◌, ◌≤◌, ◌∷◌, ◌++◌, length, take, drop, slice_set};
 ghost use Rattle.book.specs.Grammar.{rule};
-ghost use Rattle.book.specs.Tables.{rule_entries, entries};
+ghost use Rattle.book.specs.Tables.{rule_entries};
 ghost use Rattle.book.specs.Edits.{bare, Blanked, AddedOr};
 
-use super::entries::{RuleEntries, TableEntries};
+use super::entries::{AppendedEntries, TableEntries};
 use super::fault::BookFault;
-use super::reader::{Header, Summary, check, check_header, check_rule};
+use super::reader::{check, check_header, check_rule};
 
 /// The most rules that a book may have.
 const MOST_RULES: usize = 2048;
-
-/// The entries of a book with no rule.
-fn bare_header(words: u16, names: u16, start: u16) -> [u16; 4]
-    ensures { result ≡ entries (bare words names start) }
-{
-    [words, names, start, 0]
-}
 
 /// Writes the header of a book with no rule; the length used.
 pub fn blank(table: &mut [u16], words: u16, names: u16, start: u16) -> Result<usize, BookFault>
     ensures { Blanked table.old (bare words names start) result table.new }
 {
-    let header = bare_header(words, names, start);
+    let header = [words, names, start, 0];
     check_header(&TableEntries(&header))?;
     if table.len() < 4 {
         return Err(BookFault::NoRoom(4));
     }
-    table[0..4].copy_from_slice(&header);
+    table[..4].copy_from_slice(&header);
     Ok(4)
 }
 
@@ -55,26 +48,17 @@ pub fn add(table: &mut [u16], left: u16, right: &[u16]) -> Result<usize, BookFau
     ensures { AddedOr table.old (rule left right.now) result table.new }
 {
     let book = check(table)?;
-    let Summary {
-        words,
-        names,
-        start,
-        rules,
-        used,
-        items,
-    } = book;
-    let header = Header {
-        words,
-        names,
-        start,
-        rules,
+    let used = book.used;
+    let appended = AppendedEntries {
+        book: &table[..used],
+        left,
+        right,
     };
-    let length = check_rule(&RuleEntries { left, right }, 0, used, header, items)?;
-    let end = used + 2 + length;
-    if rules == MOST_RULES || end > table.len() {
+    let end = check_rule(&appended, book)?.used;
+    if book.rules == MOST_RULES || end > table.len() {
         return Err(BookFault::NoRoom(used));
     }
-    count_rule(table, rules);
+    count_rule(table, book.rules);
     write_rule(table, used, left, right);
     Ok(end)
 }

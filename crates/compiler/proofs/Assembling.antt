@@ -222,6 +222,10 @@ refuses_jumps {book} {m} {room} {l} {g} {states} {moves} {nodes} {arrows} b o f 
     let (x, at, e) = j.answer in
     subst (λ z. CompileRefusal book m room l z) (sym e) (in_jumps g states moves nodes arrows b o j.all j.of x at)
 
+-- the jumps of a flattened acceptor are those between its nodes
+pub jumps_of : {g : Grammar} {states : List (List ℕ)} {nodes : List MeantNode} {arrows : List Arrow} {f : Acceptor} → FlattenedFrom g states nodes arrows f → JumpsOf g states nodes arrows f.jumps
+jumps_of f = record { rising = f.jumps_rise; are = f.jumps_are }
+
 -- a part of a table is no longer than asked
 pub part_few : (rows : List Jump) (n most : ℕ) → n ≤ most → length (take (n - 0) rows) ≤ most
 part_few rows n most h = simp length-take (omega arith)

@@ -5,8 +5,8 @@ ghost use Rattle.compiler.specs.Compiling.{CompiledOr};
 use super::fault::CompileFault;
 use book::check;
 use finding::moves::Move;
-use flattening::flat::{count_arcs, final_node, jumps};
 use flattening::jump::Jump;
+use flattening::unfolded::Unfolded;
 use machine::items::Items;
 use machine::machine::characteristic;
 use pga::listing::Counts;
@@ -45,6 +45,7 @@ pub fn compile_book<P: Policy>(
         })
         out.old result out.new }
 {
+    // Taken apart: no rule of proof covers a write to one field's table while another field is lent.
     let Workspace {
         states,
         moves,
@@ -54,29 +55,29 @@ pub fn compile_book<P: Policy>(
     } = work;
     let summary = check(book)?;
     let machine = characteristic(book, states, moves)?;
-    let move_count = machine.moves;
     let symbols = (summary.words + summary.names) as u16;
-    let found = unfold(policy, &moves[0..move_count], symbols, nodes, unfolded)?;
-    let arrow_count = found.moves;
-    let arrows = &unfolded[0..arrow_count];
+    let found = unfold(policy, &moves[0..machine.moves], symbols, nodes, unfolded)?;
+    let arrows = &unfolded[0..found.moves];
     let items = Items::of(book, summary);
-    let jump_count = jumps(&items, arrows, rows)?;
-    let last = final_node(&items, arrows);
+    let unfolded_machine = Unfolded {
+        items: &items,
+        moves: arrows,
+    };
+    let flat = unfolded_machine.flatten(rows)?;
     let parts = Parts {
         words: summary.words as u16,
         nodes: found.entries as u16,
-        final_node: last,
+        final_node: flat.final_node,
         moves: arrows,
-        jumps: &rows[0..jump_count],
+        jumps: &rows[0..flat.jumps],
     };
-    let arcs = count_arcs(arrows, summary.words);
     write(parts, out)?;
     Ok(Counts {
         states: machine.states,
-        moves: move_count,
+        moves: machine.moves,
         nodes: found.entries,
-        unfolded: arrow_count,
-        arcs,
-        jumps: jump_count,
+        unfolded: found.moves,
+        arcs: flat.arcs,
+        jumps: flat.jumps,
     })
 }

@@ -11,7 +11,7 @@ use machine::fault::MachineFault;
 use unfolding::fault::UnfoldingFault;
 
 /// Why a book is not compiled. The book's fault is carried whole.
-#[derive(Clone, Copy)]
+#[derive(Clone, Copy, PartialEq, Eq, Debug)]
 pub enum CompileFault {
     /// the table holds no grammar
     Book(BookFault),
@@ -60,6 +60,8 @@ impl From<JumpFault> for CompileFault {
     }
 }
 
+// The case holds the bytes alone: the layer of a short output depends on the call, so the struct has no refusal.
+
 impl From<TooShort> for CompileFault {
     ghost from_gives = { λ f r. r ≡ OutputShort f.needed };
 
@@ -68,16 +70,16 @@ impl From<TooShort> for CompileFault {
     }
 }
 
-impl CompileFault {
-    /// The number, layer and place of the fault.
-    pub fn refusal(self) -> Refusal
-        ensures { result ≡ refusal_of self }
-    {
-        match self {
-            CompileFault::Book(f) => f.refusal(),
-            CompileFault::Machine(f) => f.refusal(),
-            CompileFault::Unfolding(f) => f.refusal(),
-            CompileFault::Jumps(f) => f.refusal(),
+/// The number, layer and place of the fault.
+impl From<CompileFault> for Refusal {
+    ghost from_gives = { λ f r. r ≡ refusal_of f };
+
+    fn from(fault: CompileFault) -> Refusal {
+        match fault {
+            CompileFault::Book(f) => f.into(),
+            CompileFault::Machine(f) => f.into(),
+            CompileFault::Unfolding(f) => f.into(),
+            CompileFault::Jumps(f) => f.into(),
             CompileFault::OutputShort(n) => Refusal {
                 number: 16,
                 layer: 4,

@@ -3,3 +3,4 @@
 
 pub mod compile;
 pub mod fault;
+pub mod tables;

@@ -1,18 +1,11 @@
 //! Tests of compile on small grammars, and with tables at the bounds.
 #![tactic(auto)]
 
-use book::{BookFault, Refusal, add, blank};
+use book::Refusal;
 use compiler::compile::{Workspace, compile_book};
-use finding::moves::Move;
-use flattening::jump::Jump;
+use compiler::tables::Tables;
 use pga::listing::Counts;
-use policies::last::{Depth, Last};
-use policy::one_class::OneClass;
-use policy::path::Path;
 use policy::stacks::Policy;
-use table::numbers::{ClassNo, NodeNo, StateNo};
-use table::sets::ItemSet;
-use unfolding::node::Node;
 
 /// How many rows each lent table has.
 #[derive(Clone, Copy)]
@@ -25,75 +18,29 @@ struct Rows {
     out: usize,
 }
 
-/// What compile answers: the counts, or the number, layer and place.
-#[derive(Clone, Copy, PartialEq, Eq, Debug)]
-enum Answer {
-    Compiled(Counts),
-    Refused(u8, u8, usize),
-}
-
 /// Compiles a book under a policy in tables of these rows, at most sixteen each.
-fn compile_in<P: Policy>(book: &[u16], policy: &mut P, rows: Rows, out: &mut [u8]) -> Answer {
-    let mut states = [ItemSet::empty(); 16];
-    let mut moves = [Move {
-        from: StateNo(0),
-        symbol: 0,
-        to: StateNo(0),
-    }; 16];
-    let mut nodes = [Node {
-        state: StateNo(0),
-        class: ClassNo(0),
-    }; 16];
-    let mut unfolded = [Move {
-        from: NodeNo(0),
-        symbol: 0,
-        to: NodeNo(0),
-    }; 16];
-    let mut jumps = [Jump {
-        from: NodeNo(0),
-        to: NodeNo(0),
-    }; 16];
+fn compile_in<P: Policy>(
+    book: &[u16],
+    policy: &mut P,
+    rows: Rows,
+    out: &mut [u8],
+) -> Result<Counts, Refusal> {
+    let mut tables = Tables::<16, 16, 16, 16>::new();
+    let Workspace {
+        states,
+        moves,
+        nodes,
+        unfolded,
+        jumps,
+    } = tables.lend();
     let work = Workspace {
-        states: &mut states[0..rows.states.min(16)],
-        moves: &mut moves[0..rows.moves.min(16)],
-        nodes: &mut nodes[0..rows.nodes.min(16)],
-        unfolded: &mut unfolded[0..rows.unfolded.min(16)],
-        jumps: &mut jumps[0..rows.jumps.min(16)],
+        states: &mut states[..rows.states.min(16)],
+        moves: &mut moves[..rows.moves.min(16)],
+        nodes: &mut nodes[..rows.nodes.min(16)],
+        unfolded: &mut unfolded[..rows.unfolded.min(16)],
+        jumps: &mut jumps[..rows.jumps.min(16)],
     };
-    match compile_book(book, policy, work, out) {
-        Ok(counts) => Answer::Compiled(counts),
-        Err(fault) => {
-            let Refusal {
-                number,
-                layer,
-                place,
-            } = fault.refusal();
-            Answer::Refused(number, layer, place)
-        }
-    }
-}
-
-/// S → a S b | ε, with a = 0, b = 1 and S = 2.
-fn nested(table: &mut [u16]) -> Result<usize, BookFault> {
-    blank(table, 2, 1, 2)?;
-    add(table, 2, &[0, 2, 1])?;
-    add(table, 2, &[])
-}
-
-/// S → a X a | b X b, X → c, with a = 0, b = 1, c = 2, S = 3 and X = 4.
-fn two_sides(table: &mut [u16]) -> Result<usize, BookFault> {
-    blank(table, 3, 2, 3)?;
-    add(table, 3, &[0, 4, 0])?;
-    add(table, 3, &[1, 4, 1])?;
-    add(table, 4, &[2])
-}
-
-/// S → A b, A → A a | ε, with a = 0, b = 1, S = 2 and A = 3.
-fn left_linear(table: &mut [u16]) -> Result<usize, BookFault> {
-    blank(table, 2, 2, 2)?;
-    add(table, 2, &[3, 1])?;
-    add(table, 3, &[3, 0])?;
-    add(table, 3, &[])
+    Ok(compile_book(book, policy, work, out)?)
 }
 
 /// Rows enough for every book here.
@@ -117,14 +64,14 @@ const EXACT: Rows = Rows {
 };
 
 /// The nested book's counts.
-const NESTED: Answer = Answer::Compiled(Counts {
+const NESTED: Counts = Counts {
     states: 5,
     moves: 5,
     nodes: 5,
     unfolded: 5,
     arcs: 3,
     jumps: 4,
-});
+};
 
 /// Tables too short by one or empty, and the refusal of each.
 const SHORT: [(Rows, u8, u8, usize); 11] = [
@@ -152,44 +99,61 @@ const SHORT: [(Rows, u8, u8, usize); 11] = [
 #[cfg(test)]
 mod tests {
     use super::*;
+    use book::{add, blank};
+    use policies::last::{Depth, Last};
+    use policy::one_class::OneClass;
+    use policy::path::Path;
+    use samples::{left_linear, nested, two_sides};
     use std::process::Abort;
+    use std::test::Fail;
 
-    // The nested book in tables of these rows; refused, the output stands as it was.
-    fn refuses(rt: &impl Abort, rows: Rows, answer: Answer) {
+    // The nested book in tables of these rows is refused, and the output stands as it was.
+    fn refuses(rt: &impl Abort, rows: Rows, refusal: Refusal) -> Result<(), Fail> {
         let mut table = [0; 32];
-        assert!(rt; nested(&mut table).is_ok());
+        nested(&mut table)?;
         let mut out = [9; 64];
         let length = rows.out.min(64);
         assert_eq!(rt;
-            compile_in(&table, &mut Path::new(), rows, &mut out[0..length]),
-            answer
+            compile_in(&table, &mut Path::new(), rows, &mut out[..length]),
+            Err(refusal)
         );
         assert_eq!(rt; out, [9; 64]);
+        Ok(())
     }
 
     #[test]
-    fn one_row_too_few(rt: HostRuntime) {
+    fn one_row_too_few(rt: HostRuntime) -> Result<(), Fail> {
         for (rows, number, layer, place) in SHORT {
-            refuses(&rt, rows, Answer::Refused(number, layer, place));
+            refuses(
+                &rt,
+                rows,
+                Refusal {
+                    number,
+                    layer,
+                    place,
+                },
+            )?;
         }
+        Ok(())
     }
 
     #[test]
-    fn just_enough_rows(rt: HostRuntime) {
+    fn just_enough_rows(rt: HostRuntime) -> Result<(), Fail> {
         let mut table = [0; 32];
-        assert!(rt; nested(&mut table).is_ok());
+        nested(&mut table)?;
         let mut out = [9; 50];
         assert_eq!(rt;
-            compile_in(&table, &mut Path::new(), EXACT, &mut out[0..49]),
-            NESTED
+            compile_in(&table, &mut Path::new(), EXACT, &mut out[..49]),
+            Ok(NESTED)
         );
         assert_eq!(rt; (out[11], out[13], out[49]), (3, 4, 9));
+        Ok(())
     }
 
     #[test]
-    fn policies_differ(rt: HostRuntime) {
+    fn policies_differ(rt: HostRuntime) -> Result<(), Fail> {
         let mut table = [0; 32];
-        assert!(rt; two_sides(&mut table).is_ok());
+        two_sides(&mut table)?;
         let mut out = [9; 96];
         let coarse = Counts {
             states: 9,
@@ -201,7 +165,7 @@ mod tests {
         };
         assert_eq!(rt;
             compile_in(&table, &mut OneClass, ENOUGH, &mut out),
-            Answer::Compiled(coarse)
+            Ok(coarse)
         );
         let fine = Counts {
             nodes: 10,
@@ -209,18 +173,19 @@ mod tests {
         };
         assert_eq!(rt;
             compile_in(&table, &mut Path::new(), ENOUGH, &mut out),
-            Answer::Compiled(fine)
+            Ok(fine)
         );
         assert_eq!(rt;
             compile_in(&table, &mut Last::new(Depth::One), ENOUGH, &mut out),
-            Answer::Compiled(fine)
+            Ok(fine)
         );
+        Ok(())
     }
 
     #[test]
-    fn left_linear_book(rt: HostRuntime) {
+    fn left_linear_book(rt: HostRuntime) -> Result<(), Fail> {
         let mut table = [0; 32];
-        assert!(rt; left_linear(&mut table).is_ok());
+        left_linear(&mut table)?;
         let mut out = [9; 64];
         let counts = Counts {
             states: 5,
@@ -232,24 +197,30 @@ mod tests {
         };
         assert_eq!(rt;
             compile_in(&table, &mut OneClass, ENOUGH, &mut out),
-            Answer::Compiled(counts)
+            Ok(counts)
         );
+        Ok(())
     }
 
     #[test]
     fn no_book(rt: HostRuntime) {
         let mut out = [9; 64];
+        let missing = Refusal {
+            number: 1,
+            layer: 1,
+            place: 0,
+        };
         assert_eq!(rt;
             compile_in(&[], &mut Path::new(), ENOUGH, &mut out),
-            Answer::Refused(1, 1, 0)
+            Err(missing)
         );
         assert_eq!(rt; out, [9; 64]);
     }
 
     #[test]
-    fn no_rule(rt: HostRuntime) {
+    fn no_rule(rt: HostRuntime) -> Result<(), Fail> {
         let mut table = [0; 32];
-        assert!(rt; blank(&mut table, 1, 1, 1).is_ok());
+        blank(&mut table, 1, 1, 1)?;
         let mut out = [9; 16];
         let counts = Counts {
             states: 2,
@@ -261,19 +232,20 @@ mod tests {
         };
         assert_eq!(rt;
             compile_in(&table, &mut Path::new(), ENOUGH, &mut out),
-            Answer::Compiled(counts)
+            Ok(counts)
         );
         assert_eq!(rt;
             out,
             [0x50, 0x47, 0x41, 1, 0, 1, 0, 2, 0, 1, 0, 0, 0, 0, 0, 9]
         );
+        Ok(())
     }
 
-    #[test]
-    fn one_rule_to_itself(rt: HostRuntime) {
+    // The book of one word, one name and this one rule: its file, which has one jump, and one byte that stays as it was.
+    fn one_rule(rt: &impl Abort, right: &[u16], file: [u8; 20]) -> Result<(), Fail> {
         let mut table = [0; 32];
-        assert!(rt; blank(&mut table, 1, 1, 1).is_ok());
-        assert!(rt; add(&mut table, 1, &[1]).is_ok());
+        blank(&mut table, 1, 1, 1)?;
+        add(&mut table, 1, right)?;
         let mut out = [9; 20];
         let counts = Counts {
             states: 2,
@@ -285,39 +257,31 @@ mod tests {
         };
         assert_eq!(rt;
             compile_in(&table, &mut Path::new(), ENOUGH, &mut out),
-            Answer::Compiled(counts)
+            Ok(counts)
         );
-        assert_eq!(rt;
-            out,
-            [
-                0x50, 0x47, 0x41, 1, 0, 1, 0, 2, 0, 1, 0, 0, 0, 1, 0, 1, 0, 1, 0, 9
-            ]
-        );
+        assert_eq!(rt; out, file);
+        Ok(())
     }
 
     #[test]
-    fn only_the_empty_side(rt: HostRuntime) {
-        let mut table = [0; 32];
-        assert!(rt; blank(&mut table, 1, 1, 1).is_ok());
-        assert!(rt; add(&mut table, 1, &[]).is_ok());
-        let mut out = [9; 20];
-        let counts = Counts {
-            states: 2,
-            moves: 1,
-            nodes: 2,
-            unfolded: 1,
-            arcs: 0,
-            jumps: 1,
-        };
-        assert_eq!(rt;
-            compile_in(&table, &mut Path::new(), ENOUGH, &mut out),
-            Answer::Compiled(counts)
-        );
-        assert_eq!(rt;
-            out,
+    fn one_rule_to_itself(rt: HostRuntime) -> Result<(), Fail> {
+        one_rule(
+            &rt,
+            &[1],
             [
-                0x50, 0x47, 0x41, 1, 0, 1, 0, 2, 0, 1, 0, 0, 0, 1, 0, 0, 0, 1, 0, 9
-            ]
-        );
+                0x50, 0x47, 0x41, 1, 0, 1, 0, 2, 0, 1, 0, 0, 0, 1, 0, 1, 0, 1, 0, 9,
+            ],
+        )
+    }
+
+    #[test]
+    fn only_the_empty_side(rt: HostRuntime) -> Result<(), Fail> {
+        one_rule(
+            &rt,
+            &[],
+            [
+                0x50, 0x47, 0x41, 1, 0, 1, 0, 2, 0, 1, 0, 0, 0, 1, 0, 0, 0, 1, 0, 9,
+            ],
+        )
     }
 }

@@ -1,6 +1,5 @@
 -- From what the search answers to the determinised acceptor.
-use Rattle.std.proofs.Common.{◌≡◌, ℕ, ◌-◌, ◌<◌, ◌≤◌, min, eqb, List, ◌++◌, map, length, take, drop, Ok, Err, Result, sym, ap, ◌∙◌, subst, arith, length-take-le}
-use native.Mathlib.Nat.{sub-zero}
+use Rattle.std.proofs.Common.{◌≡◌, ℕ, ◌<◌, ◌≤◌, min, eqb, List, ◌++◌, map, length, take, drop, Ok, Err, Result, sym, ap, ◌∙◌, subst, arith, length-take-le}
 use Rattle.std.proofs.lemmas.List.{length-map}
 use Rattle.table.specs.Sets.{members}
 use Rattle.table.specs.declared.sets.NumberSet.{NumberSet}
@@ -80,24 +79,12 @@ module _ (f : Acceptor) (fit : Fit f) (l : Lengths) (start : NumberSet NodeNo) (
         let w = whole_fits (limits f l.rows l.arcs) (first_set f) _ _ answer.found in
         (omega (arith, w.0, set_count), omega (arith, w.1, arc_count))
 
-    pub parts_small : (length (take (c.entries - 0) rows) ≤ 1024) × (length (take (c.moves - 0) arcs) ≤ 16384)
-    parts_small =
-        let n = ap (λ (k : ℕ). length (take k rows)) (sub-zero c.entries) ∙ state_count in
-        let m = ap (λ (k : ℕ). length (take k arcs)) (sub-zero c.moves) ∙ arc_rows in
-        (omega (arith, counts.0), omega (arith, counts.1))
+    pub parts_small : (length (take c.entries rows) ≤ 1024) × (length (take c.moves arcs) ≤ 16384)
+    parts_small = (omega (arith, state_count, counts.0), omega (arith, arc_rows, counts.1))
 
     module _ (words : ℕ) (final : NodeNo) (words_are : words ≡ f.words) (final_is : final.0 ≡ f.final) where
       abbrev d : Determined
       d = determined words (take c.entries rows) final (take c.moves arcs)
-
-      -- the same, of the parts of the tables that are handed on
-      abbrev part : Determined
-      part = determined words (take (c.entries - 0) rows) final (take (c.moves - 0) arcs)
-
-      part_is : part ≡ d
-      part_is =
-          ap (λ (k : ℕ). determined words (take k rows) final (take (c.moves - 0) arcs)) (sub-zero c.entries)
-          ∙ ap (λ (k : ℕ). determined words (take c.entries rows) final (take k arcs)) (sub-zero c.moves)
 
       determinised : Determinised f d
       unfolding limits
@@ -110,16 +97,14 @@ module _ (f : Acceptor) (fit : Fit f) (l : Lengths) (start : NumberSet NodeNo) (
             finals_are = ap (λ (n : ℕ). map (λ (set : List ℕ). any (eqb n) set) (sets (take c.entries rows))) final_is;
           }
 
-      pub short_output : (needed : ℕ) → needed ≡ determined_length part → l.out < determined_length part → DeterminiseRefusal f l (told 16 needed)
+      pub short_output : (needed : ℕ) → needed ≡ determined_length d → l.out < determined_length d → DeterminiseRefusal f l (told 16 needed)
       short_output needed e short =
-          subst (λ (n : ℕ). DeterminiseRefusal f l (told 16 n)) (sym (e ∙ ap determined_length part_is))
-          (output d determinised (omega (arith, state_count, counts.0)) (omega (arith, arc_count, counts.1))
-          (subst (λ (z : Determined). l.out < determined_length z) part_is short))
+          subst (λ (n : ℕ). DeterminiseRefusal f l (told 16 n)) (sym e)
+          (output d determinised (omega (arith, state_count, counts.0)) (omega (arith, arc_count, counts.1)) short)
 
-      pub whole_output : (out out' : List ℕ) (n : ℕ) → FileWritten part out out' n
+      pub whole_output : (out out' : List ℕ) (n : ℕ) → FileWritten d out out' n
           → DeterminisedIn f l out out' (record { states = c.entries; arcs = c.moves })
-      whole_output out out' n written =
-          let w : FileWritten d out out' n = subst (λ (z : Determined). FileWritten z out out' n) part_is written in
+      whole_output out out' n w =
           record {
             acceptor = d;
             is = determinised;

@@ -35,9 +35,9 @@ pub fn determinise(
     let Count { entries, moves } = number(&mut NodeSets { flat }, start, rows, arcs, LIMITS)?;
     let parts = Parts {
         words: header.words as u16,
-        rows: &rows[0..entries],
+        rows: &rows[..entries],
         final_node: NodeNo(header.final_node as u16),
-        arcs: &arcs[0..moves],
+        arcs: &arcs[..moves],
     };
     write(parts, out)?;
     Ok(SubsetCounts {

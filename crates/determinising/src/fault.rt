@@ -15,7 +15,7 @@ pub struct SubsetCounts {
 }
 
 /// Why an acceptor is not determinised.
-#[derive(Clone, Copy)]
+#[derive(Clone, Copy, PartialEq, Eq, Debug)]
 pub enum DeterminiseFault {
     /// the bytes are no acceptor's file
     File(AcceptorFault),
@@ -46,6 +46,8 @@ impl From<Stop> for DeterminiseFault {
     }
 }
 
+// The case holds the bytes alone, as each case of a limit holds its number: the layer of a short output depends on the call, so the struct has no refusal.
+
 impl From<OutputShort> for DeterminiseFault {
     ghost from_gives = { λ f r. r ≡ Short f.needed };
 
@@ -54,13 +56,13 @@ impl From<OutputShort> for DeterminiseFault {
     }
 }
 
-impl DeterminiseFault {
-    /// The number, layer and place of the fault.
-    pub fn refusal(self) -> Refusal
-        ensures { result ≡ refusal_of self }
-    {
-        match self {
-            DeterminiseFault::File(fault) => fault.refusal(),
+/// The number, layer and place of the fault.
+impl From<DeterminiseFault> for Refusal {
+    ghost from_gives = { λ f r. r ≡ refusal_of f };
+
+    fn from(fault: DeterminiseFault) -> Refusal {
+        match fault {
+            DeterminiseFault::File(fault) => fault.into(),
             DeterminiseFault::SetLimit(number) => Refusal {
                 number: 18,
                 layer: 5,

@@ -1,11 +1,13 @@
 -- Checks one after the other.
-use Rattle.std.proofs.Common.{◌≡◌, ℕ, zero, suc, ◌+◌, ◌-◌, ◌*◌, ◌<◌, ◌≤◌, List, [], ◌∷◌, ◌++◌, length, get_or, take, drop, sym, ap, ◌∙◌, subst, ⊎_elim, mul-le-mul, mul-add, add-one, arith}
+use Rattle.std.proofs.Common.{◌≡◌, ℕ, zero, suc, ◌+◌, ◌-◌, ◌*◌, ◌<◌, ◌≤◌, List, [], ◌∷◌, ◌++◌, length, get_or, take, drop, Ok, Err, Result, sym, ap, ◌∙◌, subst, ⊎_elim, mul-add, add-one, arith}
 use Rattle.std.specs.List.{AllByRecursion}
-use Rattle.std.proofs.lemmas.List.{take-append-drop, take_more, drop_more, length-take-le}
+use Rattle.std.proofs.lemmas.List.{take-append-drop, drop_more, length-take-le}
 use Rattle.std.proofs.ByRecursion.{All-append}
 use Rattle.std.proofs.lemmas.Bool.{cases_lt}
 use Rattle.book.specs.declared.fault.Refusal.{Refusal}
-use Rattle.fields.specs.Flaws.{Check, ranged, Passes, Fault, First, fields, parts, flags, row, rows}
+use Rattle.fields.specs.declared.fault.AcceptorFault.{AcceptorFault}
+use Rattle.fields.specs.Flaws.{Check, marked, ranged, flagged, Passes, Fault, First, fields, parts, flags, row, rows}
+use Rattle.fields.specs.Judged.{NumberJudged, FrontJudged}
 use Rattle.fields.specs.Flaws.First.{here, later}
 
 module _ (bytes : List ℕ) where
@@ -31,15 +33,6 @@ module _ (bytes : List ℕ) where
   fields_append at [] ys = ap (λ n. fields n ys) (omega arith)
   fields_append at (x ∷ xs) ys =
       ap (λ l. ranged at 0 x ∷ l) (fields_append (at + 2) xs ys ∙ ap (λ n. fields (at + 2) xs ++ fields n ys) (omega arith))
-
-  pub fields_more : (at : ℕ) (limits : List ℕ) (i : ℕ) → i < length limits → AllByRecursion (Passes bytes) (fields at (take i limits))
-      → Passes bytes (ranged (at + 2 * i) 0 (get_or limits i 0)) → AllByRecursion (Passes bytes) (fields at (take (i + 1) limits))
-  fields_more at limits i h a p =
-      let here-at : at + 2 * length (take i limits) ≡ at + 2 * i = omega (arith, length-take-le i limits (omega arith)) in
-      let e : fields at (take (i + 1) limits) ≡ fields at (take i limits) ++ (ranged (at + 2 * i) 0 (get_or limits i 0) ∷ []) =
-      ap (fields at) (take_more limits i 0 h) ∙ fields_append at (take i limits) (get_or limits i 0 ∷ [])
-      ∙ ap (λ n. fields at (take i limits) ++ (ranged n 0 (get_or limits i 0) ∷ [])) here-at in
-      subst (AllByRecursion (Passes bytes)) (sym e) (All-append (Passes bytes) (fields at (take i limits)) _ a (p, tt))
 
   pub fields_fault : (at : ℕ) (limits : List ℕ) (i : ℕ) {f : Refusal} → i < length limits → AllByRecursion (Passes bytes) (fields at (take i limits))
       → Fault bytes (ranged (at + 2 * i) 0 (get_or limits i 0)) f → First bytes (fields at limits) f
@@ -86,6 +79,28 @@ module _ (bytes : List ℕ) where
     every_part (suc n) each =
         All-append (Passes bytes) (parts part n) (part n) (every_part n (λ k h. each k (omega arith))) (each n (omega arith))
 
+  -- what every file begins with
+  pub front_told : (mark : List ℕ) → Passes bytes (marked mark) → Passes bytes (ranged 3 1 2) → (r : Result ℕ AcceptorFault)
+      → NumberJudged bytes 5 1 1025 r → FrontJudged bytes mark r
+  front_told mark p q (Ok v) (a, e) = ((p, (q, (a, tt))), e)
+  front_told mark p q (Err f) x = later p (later q (here x))
+
+  -- one flag more, at its place
+  module _ (start at : ℕ) (h : start ≤ at) where
+    place_is : at ≡ start + (at - start)
+    place_is = omega arith
+
+    pub flags_more : AllByRecursion (Passes bytes) (flags start (at - start)) → Passes bytes (flagged at) → AllByRecursion (Passes bytes) (flags start (at + 1 - start))
+    flags_more a p =
+        let e : at - start + 1 ≡ at + 1 - start = omega arith in
+        subst (λ n. AllByRecursion (Passes bytes) (flags start n)) e
+        (parts_more (λ k. flagged (start + k) ∷ []) (at - start) a (subst (λ n. Passes bytes (flagged n)) place_is p, tt))
+
+    pub flags_fault : (count : ℕ) {f : Refusal} → at < start + count → AllByRecursion (Passes bytes) (flags start (at - start)) → Fault bytes (flagged at) f
+        → First bytes (flags start count) f
+    flags_fault count {f} l a x =
+        part_fault (λ k. flagged (start + k) ∷ []) (at - start) count (omega arith) a (here (subst (λ n. Fault bytes (flagged n) f) place_is x))
+
   -- flags that pass are all there
   pub flags_there : (start n : ℕ) → start ≤ length bytes → AllByRecursion (Passes bytes) (flags start n) → start + n ≤ length bytes
   flags_there start zero h a = omega arith
@@ -99,11 +114,6 @@ module _ (bytes : List ℕ) where
     row_fault k n at {f} h e a x =
         part_fault (λ m. row start limits (start + 2 * length limits * m)) k n h a (subst (λ m. First bytes (row start limits m) f) e x)
 
-    pub rows_more : (k at : ℕ) → at ≡ start + 2 * length limits * k → AllByRecursion (Passes bytes) (rows start limits k)
-        → AllByRecursion (Passes bytes) (row start limits at) → AllByRecursion (Passes bytes) (rows start limits (k + 1))
-    rows_more k at e a x =
-        parts_more (λ m. row start limits (start + 2 * length limits * m)) k a (subst (λ m. AllByRecursion (Passes bytes) (row start limits m)) e x)
-
     -- rows that pass are all there
     pub rows_there : (k : ℕ) → start ≤ length bytes → 1 ≤ length limits → AllByRecursion (Passes bytes) (rows start limits k)
         → start + 2 * length limits * k ≤ length bytes
@@ -113,16 +123,3 @@ module _ (bytes : List ℕ) where
         let last = all_left (fields at limits) _ (all_right (rows start limits k) _ a) in
         let there = fields_there at limits (length limits - 1) (omega arith) last in
         omega (arith, there, mul-add (2 * length limits) k 1, ap (λ n. 2 * length limits * n) (add-one k))
-
--- the place of the next row
-pub next_row : (start width k at : ℕ) → at ≡ start + width * k → at + width ≡ start + width * (k + 1)
-next_row start width k at e = omega (arith, mul-add width k 1)
-
--- a row that is not the first has one before it
-pub row_before : (start width k at : ℕ) → at ≡ start + width * k → start < at → start + width ≤ at
-row_before start width zero at e h = absurd (omega arith)
-row_before start width (suc k) at e h = omega (arith, mul-add width k 1, ap (λ n. width * n) (add-one k))
-
--- rows of at most three numbers
-pub row_bound : (start width k at : ℕ) → at ≡ start + width * k → k ≤ 16384 → width ≤ 6 → at ≤ start + 98304
-row_bound start width k at e h l = omega (arith, mul-le-mul {n₁ = width} {m₁ = k} {n₂ = 6} {m₂ = 16384} l h)

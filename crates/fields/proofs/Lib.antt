@@ -6,3 +6,4 @@ pub mod Read
 pub mod Judging
 pub mod Rising
 pub mod Faults
+pub mod Files

@@ -1,17 +1,11 @@
 -- Bytes put into an output one after the other.
-use Rattle.std.proofs.Common.{◌≡◌, ℕ, ◌+◌, ◌<◌, ◌≤◌, List, [], ◌∷◌, ◌++◌, length, get_or, take, drop, set, sym, refl, ap, ◌∙◌, subst, append_assoc, add-one, arith}
+use Rattle.std.proofs.Common.{◌≡◌, ℕ, ◌+◌, ◌/◌, ◌%◌, ◌<◌, ◌≤◌, List, [], ◌∷◌, ◌++◌, length, get_or, take, drop, sym, ap, ◌∙◌, subst, append_assoc, w16, arith}
 use Rattle.std.specs.List.{flat_map}
-use Rattle.std.proofs.lemmas.List.{length-append, length-take-le, take-append-drop, take_at, drop_at, drop-drop, set_split, take_more, take_all, flat_map_more}
-use Rattle.fields.specs.Putting.{Put}
-
-pub put_none : (out : List ℕ) (at : ℕ) → Put out at [] out at
-put_none out at = record { ends = omega arith; is = λ h. sym (take-append-drop at out) }
-
-pub put_one : (out : List ℕ) (at byte : ℕ) → at < length out → Put out at (byte ∷ []) (set out at byte) (at + 1)
-put_one out at byte h = record { ends = refl; is = λ l. set_split out at byte h ∙ ap (λ n. take at out ++ (byte ∷ drop n out)) (sym (add-one at)) }
-
-pub put_past : (out : List ℕ) (at byte : ℕ) → length out ≤ at → Put out at (byte ∷ []) out (at + 1)
-put_past out at byte h = record { ends = refl; is = λ l. absurd (omega arith) }
+use Rattle.std.specs.Int.{to_le_bytes}
+use Rattle.book.specs.Files.{bytes_of}
+use Rattle.std.proofs.lemmas.List.{length-append, length-take-le, take_at, drop_at, drop-drop, take_more, take_all, flat_map_more}
+use Rattle.fields.specs.declared.output.Output.{Output}
+use Rattle.fields.specs.Putting.{Put, Puts}
 
 module _ (o p q : List ℕ) (a b c : ℕ) (t u : List ℕ) where
   written_then : (c ≤ length o) → b ≡ a + length t → c ≡ b + length u
@@ -36,12 +30,30 @@ module _ (o p q : List ℕ) (a b c : ℕ) (t u : List ℕ) where
         is = λ h. written_then h eb ec (x.is (omega arith)) (y.is (omega arith));
       }
 
--- four parts, one after the other
-pub put_parts : (o p q r s : List ℕ) (a b c d e : ℕ) (t u v w : List ℕ) → length p ≡ length o → length q ≡ length o → length r ≡ length o
-    → Put o a t p b → Put p b u q c → Put q c v r d → Put r d w s e → Put o a (t ++ (u ++ (v ++ w))) s e
-put_parts o p q r s a b c d e t u v w l m n x y z x' =
-    put_then o p s a b e t (u ++ (v ++ w)) l x
-    (put_then p q s b c e u (v ++ w) (m ∙ sym l) y (put_then q r s c d e v w (n ∙ sym m) z x'))
+-- the library's two bytes of a number are these
+pub le_bytes : (n : ℕ) → n < 65536 → to_le_bytes w16 n ≡ bytes_of n
+le_bytes n h = let u : n / 256 % 256 ≡ n / 256 = omega arith in λ i. n % 256 ∷ (u i ∷ [])
+
+-- outputs: one text after another
+module _ (before : Output) where
+  pub puts_then : (middle after : Output) (t u : List ℕ) → Puts before t middle → Puts middle u after → Puts before (t ++ u) after
+  puts_then middle after t u x y =
+      record {
+        lent = y.lent ∙ x.lent;
+        room = y.room ∙ x.room;
+        put = put_then before.bytes.now middle.bytes.now after.bytes.now before.at middle.at after.at t u x.room x.put y.put;
+      }
+
+  -- the bytes of each element, one element after the other
+  module _ {X : Type 0} (f : X → List ℕ) (xs : List X) (i : ℕ) where
+    pub puts_more : (middle after : Output) (d : X) → i < length xs → Puts before (flat_map f (take i xs)) middle → Puts middle (f (get_or xs i d)) after
+        → Puts before (flat_map f (take (i + 1) xs)) after
+    puts_more middle after d h x y =
+        subst (λ t. Puts before t after) (flat_map_more f [] (take i xs) (get_or xs i d) ∙ ap (flat_map f) (sym (take_more xs i d h)))
+        (puts_then middle after (flat_map f (take i xs)) (f (get_or xs i d)) x y)
+
+    pub puts_all : (after : Output) → length xs ≤ i → Puts before (flat_map f (take i xs)) after → Puts before (flat_map f xs) after
+    puts_all after h x = subst (λ l. Puts before (flat_map f l) after) (take_all i xs h) x
 
 -- bytes that are put in front, where there is room
 pub record InFront (bytes out out' : List ℕ) (n : ℕ) : Type 0 where
@@ -55,13 +67,10 @@ put_front bytes out out' n room p =
     let that : out' ≡ bytes ++ drop n out = p.is (omega arith) in
     record { used = used; is = that; front = ap (take n) that ∙ take_at bytes (drop n out) n (sym used) }
 
--- the bytes of each element, one element after the other
-module _ {X : Type 0} (f : X → List ℕ) (xs : List X) (i : ℕ) (o p : List ℕ) (a b : ℕ) where
-  pub put_more : (q : List ℕ) (c : ℕ) (d : X) → i < length xs → length p ≡ length o
-      → Put o a (flat_map f (take i xs)) p b → Put p b (f (get_or xs i d)) q c → Put o a (flat_map f (take (i + 1) xs)) q c
-  put_more q c d h same x y =
-      subst (λ t. Put o a t q c) (flat_map_more f [] (take i xs) (get_or xs i d) ∙ ap (flat_map f) (sym (take_more xs i d h)))
-      (put_then o p q a b c (flat_map f (take i xs)) (f (get_or xs i d)) same x y)
-
-  pub put_all : length xs ≤ i → Put o a (flat_map f (take i xs)) p b → Put o a (flat_map f xs) p b
-  put_all h x = subst (λ l. Put o a (flat_map f l) p b) (take_all i xs h) x
+-- an output from its first byte on
+pub puts_front : (first last : Output) (bytes out out' : List ℕ) (n : ℕ) → first.bytes.now ≡ out → first.at ≡ 0 → out' ≡ last.bytes.now → n ≡ last.at
+    → Puts first bytes last → Put out 0 bytes out' n
+puts_front first last bytes out out' n o a o' e p =
+    subst (λ l. Put l 0 bytes out' n) o
+    (subst (λ k. Put first.bytes.now k bytes out' n) a
+    (subst (λ l. Put first.bytes.now first.at bytes l n) (sym o') (subst (Put first.bytes.now first.at bytes last.bytes.now) (sym e) p.put)))

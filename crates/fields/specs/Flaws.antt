@@ -61,6 +61,10 @@ pub data First (bytes : List ℕ) : List Check → Refusal → Type 0 where
   here : {c : Check} {cs : List Check} {f : Refusal} → Fault bytes c f → First bytes (c ∷ cs) f
   later : {c : Check} {cs : List Check} {f : Refusal} → Passes bytes c → First bytes cs f → First bytes (c ∷ cs) f
 
+-- what every file begins with: mark, version and count of words
+abbrev pub front : List ℕ → List Check
+front mark = marked mark ∷ (ranged 3 1 2 ∷ (ranged 5 1 1025 ∷ []))
+
 -- numbers from `at` on, each below its limit
 abbrev pub fields : ℕ → List ℕ → List Check
 fields at [] = []

@@ -4,7 +4,7 @@ use Rattle.std.specs.List.{AllByRecursion}
 use Rattle.fields.specs.declared.fault.AcceptorFault.{AcceptorFault}
 use Rattle.fields.specs.Reading.{number_at}
 use Rattle.fields.specs.Refusals.{refusal}
-use Rattle.fields.specs.Flaws.{Check, ranged, Passes, Fault, First, flags, rows}
+use Rattle.fields.specs.Flaws.{Check, ranged, Passes, Fault, First, front, flags, rows}
 
 -- these checks pass, or this is the first fault among them
 abbrev pub Judged : {T : Type 0} → List ℕ → List Check → Result T AcceptorFault → Type 0
@@ -21,12 +21,19 @@ abbrev pub NumberJudged : List ℕ → ℕ → ℕ → ℕ → Result ℕ Accept
 NumberJudged bytes at least limit (Ok v) = Passes bytes (ranged at least limit) × (v ≡ number_at bytes at)
 NumberJudged bytes at least limit (Err f) = Fault bytes (ranged at least limit) (refusal f)
 
--- so many flags pass, and `end` is the place after them, or this is the first fault among them
-abbrev pub FlagsJudged : List ℕ → ℕ → ℕ → Result ℕ AcceptorFault → Type 0
-FlagsJudged bytes start count (Ok end) = AllByRecursion (Passes bytes) (flags start count) × (end ≡ start + count)
-FlagsJudged bytes start count (Err f) = First bytes (flags start count) (refusal f)
+-- these checks pass and tell this number, or this is the first fault among them
+abbrev pub JudgedAs : List ℕ → List Check → ℕ → Result ℕ AcceptorFault → Type 0
+JudgedAs bytes cs n (Ok v) = AllByRecursion (Passes bytes) cs × (v ≡ n)
+JudgedAs bytes cs n (Err f) = First bytes cs (refusal f)
 
--- so many rows pass, and `end` is the place after them, or this is the first fault among them
+-- what every file begins with is sound, and tells the count of words
+abbrev pub FrontJudged : List ℕ → List ℕ → Result ℕ AcceptorFault → Type 0
+FrontJudged bytes mark = JudgedAs bytes (front mark) (number_at bytes 5)
+
+-- so many flags pass, and tell the place after them
+abbrev pub FlagsJudged : List ℕ → ℕ → ℕ → Result ℕ AcceptorFault → Type 0
+FlagsJudged bytes start count = JudgedAs bytes (flags start count) (start + count)
+
+-- so many rows pass, and tell the place after them
 abbrev pub RowsJudged : List ℕ → ℕ → List ℕ → ℕ → Result ℕ AcceptorFault → Type 0
-RowsJudged bytes start limits count (Ok end) = AllByRecursion (Passes bytes) (rows start limits count) × (end ≡ start + 2 * length limits * count)
-RowsJudged bytes start limits count (Err f) = First bytes (rows start limits count) (refusal f)
+RowsJudged bytes start limits count = JudgedAs bytes (rows start limits count) (start + 2 * length limits * count)

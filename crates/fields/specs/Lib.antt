@@ -4,3 +4,4 @@ pub mod Refusals
 pub mod Flaws
 pub mod Judged
 pub mod Putting
+pub mod Files

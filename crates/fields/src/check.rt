@@ -2,16 +2,18 @@
 ghost use Rattle.std.specs.Prelude.{◌≡◌, ◌+◌, ◌-◌, ◌*◌, ◌^◌, ◌<◌, ◌≤◌, length, Decides};
 ghost use Rattle.fields.specs.Reading.{number_at};
 ghost use Rattle.fields.specs.Flaws.{marked, flagged, RowRises, fields, row};
-ghost use Rattle.fields.specs.Judged.{Judged, OneJudged, NumberJudged, FlagsJudged, RowsJudged};
+ghost use Rattle.fields.specs.Judged.{Judged, OneJudged, NumberJudged, FrontJudged, FlagsJudged, RowsJudged};
 
 use crate::fault::AcceptorFault;
+use crate::format::{MOST_WORDS, VERSION};
+use std::ops::Range;
 
 /// The number in the two bytes at `at`.
 pub fn number_at(file: &[u8], at: usize) -> usize
     requires { at + 2 ≤ length file.now }
     ensures { result ≡ number_at file.now at }
 {
-    file[at] as usize + 256 * file[at + 1] as usize
+    u16::from_le_bytes([file[at], file[at + 1]]) as usize
 }
 
 /// Whether the mark stands in front.
@@ -27,28 +29,39 @@ pub fn check_mark(file: &[u8], mark: &[u8; 3]) -> Result<(), AcceptorFault>
     Ok(())
 }
 
-/// The number at `at`, which is to be `least` or more, and below `limit`.
-pub fn in_range(file: &[u8], at: usize, least: usize, limit: usize) -> Result<usize, AcceptorFault>
+/// The number at `at`, which is to lie in the range.
+pub fn in_range(file: &[u8], at: usize, range: Range<usize>) -> Result<usize, AcceptorFault>
     requires { at < 2 ^ 32 }
-    ensures { NumberJudged file.now at least limit result }
+    ensures { NumberJudged file.now at range.start range.end result }
 {
     if file.len() < at + 2 {
         return Err(AcceptorFault { place: file.len() });
     }
     let number = number_at(file, at);
-    if number < least || number >= limit {
+    if !range.contains(&number) {
         return Err(AcceptorFault { place: at });
     }
     Ok(number)
 }
 
+/// What every file begins with, mark, version and count of words; the count.
+pub fn check_front(file: &[u8], mark: &[u8; 3]) -> Result<usize, AcceptorFault>
+    ensures { FrontJudged file.now mark.now result }
+{
+    let version = VERSION as usize;
+    check_mark(file, mark)?;
+    in_range(file, 3, version..version + 1)?;
+    in_range(file, 5, 1..MOST_WORDS + 1)
+}
+
 /// Numbers from `at` on, each below its limit.
+// A slice whose length is asked, here and below: as a parameter of a type, two or three would be asked all the same.
 fn check_fields(file: &[u8], at: usize, limits: &[usize]) -> Result<(), AcceptorFault>
     requires { (at < 2 ^ 31) × (length limits.now ≤ 3) }
     ensures { Judged file.now (fields at limits.now) result }
 {
-    for i in 0..limits.len() {
-        in_range(file, at + 2 * i, 0, limits[i])?;
+    for (i, limit) in limits.iter().enumerate() {
+        in_range(file, at + 2 * i, 0..*limit)?;
     }
     Ok(())
 }
@@ -71,10 +84,12 @@ pub fn check_flags(file: &[u8], start: usize, count: usize) -> Result<usize, Acc
     requires { (start ≤ 2 ^ 20) × (count ≤ 2 ^ 20) }
     ensures { FlagsJudged file.now start count result }
 {
-    for k in 0..count {
-        check_flag(file, start + k)?;
+    let end = start + count;
+    // By the place: a file may end within the flags, and a fault tells where.
+    for at in start..end {
+        check_flag(file, at)?;
     }
-    Ok(start + count)
+    Ok(end)
 }
 
 /// Whether the row at `at` rises over that at `before`: by its first number, then its second.
@@ -82,11 +97,8 @@ fn row_rises(file: &[u8], before: usize, at: usize) -> bool
     requires { (before + 4 ≤ length file.now) × (at + 4 ≤ length file.now) }
     ensures { Decides result (RowRises file.now before at) }
 {
-    let old = number_at(file, before);
-    let new = number_at(file, at);
-    if old == new {
-        return number_at(file, before + 2) < number_at(file, at + 2);
-    }
+    let old = (number_at(file, before), number_at(file, before + 2));
+    let new = (number_at(file, at), number_at(file, at + 2));
     old < new
 }
 
@@ -112,10 +124,10 @@ pub fn check_rows(
     requires { (start ≤ 2 ^ 20) × (2 ≤ length limits.now) × (length limits.now ≤ 3) × (count ≤ 16384) }
     ensures { RowsJudged file.now start limits.now count result }
 {
-    let mut at = start;
-    for _k in 0..count {
-        check_row(file, start, limits, at)?;
-        at += 2 * limits.len();
+    let size = 2 * limits.len();
+    // By the number of the row: a file may end within a row, whose fields before the end are judged first, so there are no whole chunks to walk.
+    for k in 0..count {
+        check_row(file, start, limits, start + size * k)?;
     }
-    Ok(at)
+    Ok(start + size * count)
 }

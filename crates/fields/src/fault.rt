@@ -10,15 +10,15 @@ pub struct AcceptorFault {
     pub place: usize,
 }
 
-impl AcceptorFault {
-    /// The number, layer and place of the fault.
-    pub fn refusal(self) -> Refusal
-        ensures { result ≡ refusal_of self }
-    {
+/// The number, layer and place of the fault.
+impl From<AcceptorFault> for Refusal {
+    ghost from_gives = { λ f r. r ≡ refusal_of f };
+
+    fn from(fault: AcceptorFault) -> Refusal {
         Refusal {
             number: 17,
             layer: 5,
-            place: self.place,
+            place: fault.place,
         }
     }
 }

@@ -36,8 +36,8 @@ shorter : {A : Type 0} (all front rest : List A) (t : A) → all ≡ front ++ (t
 shorter all front rest t e = let l = ap length e in let k = length-append front (t ∷ rest) in omega arith
 
 stands_inside : {A : Type 0} (ts : List A) (k : ℕ) (t : A) → StandsAt ts k t → ts ≢ []
-stands_inside [] k t s e = let z : ◌≡◌ {A = ℕ} 0 1 = cc in omega arith
-stands_inside (u ∷ ts) k t s e = let z : ◌≡◌ {A = ℕ} 0 1 = cc in omega arith
+stands_inside [] k t s e = cc
+stands_inside (u ∷ ts) k t s e = cc
 
 module _ {A : Type 0} (w : Bounded A) (es : List A) (ms : List Arrow) (apart : Distinct es) (few : length es ≤ w.most) (few_moves : length ms ≤ w.most_moves)
     (rooms : (front rest : List A) (t : A) → es ≡ front ++ (t ∷ rest) → front ≢ [] → w.sought.room front t) where
@@ -147,7 +147,7 @@ module _ {A : Type 0} (w : Bounded A) (es : List A) (ms : List Arrow) (apart : D
       cases : (done cur : List A) → es ≡ done ++ (a ∷ bs) → es ≡ cur ++ coming → 0 < length cur → ((t : A) → Memᴰ t (all aims done) → Memᴰ t cur) → Memᴰ a cur
       cases [] [] e whole has covers = absurd (omega arith)
       cases [] (c ∷ cs) e whole has covers = Memᴰ.head (let h : a ∷ bs ≡ c ∷ (cs ++ coming) = sym e ∙ whole in let k : a ≡ c = cc in k)
-      cases (d ∷ ds) cur e whole has covers = covers a (earlier (d ∷ ds) bs a e (λ z. let n : ◌≡◌ {A = ℕ} 0 1 = cc in omega arith))
+      cases (d ∷ ds) cur e whole has covers = covers a (earlier (d ∷ ds) bs a e (λ z. cc))
 
   all_push : (f : A → List A) (done : List A) (a t : A) → Memᴰ t (all f (done ++ (a ∷ []))) → (t-in : List A) → (Memᴰ t (all f done) → Memᴰ t t-in) → (Memᴰ t (f a) → Memᴰ t t-in) → Memᴰ t t-in
   all_push f [] a t m in_List h k = k (subst (Memᴰ t) (append-nil (f a)) m)
@@ -211,5 +211,5 @@ module _ {A : Type 0} {w : Bounded A} where
     where
       only : Placed w (start ∷ [])
       only [] rest t e ne = absurd (ne refl)
-      only (f ∷ []) rest t e ne = let z : ◌≡◌ {A = ℕ} 0 1 = cc in absurd (omega arith)
-      only (f ∷ (g ∷ front)) rest t e ne = let z : ◌≡◌ {A = ℕ} 0 1 = cc in absurd (omega arith)
+      only (f ∷ []) rest t e ne = absurd cc
+      only (f ∷ (g ∷ front)) rest t e ne = absurd cc

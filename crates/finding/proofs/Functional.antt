@@ -1,6 +1,6 @@
 -- One outcome at most: a search has one numbering, or one refusal, and never both.
-use Rattle.std.proofs.Common.{◌≡◌, ℕ, ◌+◌, List, [], ◌∷◌, ◌++◌, length, sym, refl, ap, ◌∙◌, subst, inl, inr, arith}
-use mathlib.Core.Option.{Option, none, some}
+use Rattle.std.proofs.Common.{◌≡◌, ℕ, ◌+◌, List, [], ◌∷◌, ◌++◌, length, sym, refl, ap, subst, inl, inr, arith}
+use mathlib.Core.Option.{none}
 use Rattle.finding.specs.declared.moves.Stop.{Stop}
 use Rattle.table.specs.Lists.{StandsAt, Lacks, Distinct}
 use Rattle.finding.specs.Numbered.{Arrow as Arrow₃}
@@ -19,22 +19,13 @@ data Ahead {A : Type 0} (w : Bounded A) : Place A → Place A → Type 0 where
 module _ {A : Type 0} {w : Bounded A} where
   leads_same : {p : Place A} {t u : A} → Leads w p t → Leads w p u → t ≡ u
   leads_same {p} {t} {u} a b =
-      let e : a.at ≡ b.at = some_same (sym a.stands ∙ b.stands) in
-      some_same (sym a.goes ∙ ap (λ v. w.sought.step v p.symbol) e ∙ b.goes)
-    where
-      some_same : {x y : A} → ◌≡◌ {A = Option A} (some x) (some y) → x ≡ y
-      some_same h = cc
+      let e : a.at ≡ b.at = cc in
+      let step-same = ap (λ v. w.sought.step v p.symbol) e in cc
 
   leads_rests : {p : Place A} {t a : A} → Leads w p t → StandsAt p.entries p.entry a → w.sought.step a p.symbol ≡ none → ⊥
   leads_rests {p} {t} {a} l s n =
-      let e : a ≡ l.at = some_same (sym s ∙ l.stands) in
-      never (sym n ∙ ap (λ v. w.sought.step v p.symbol) e ∙ l.goes)
-    where
-      some_same : {x y : A} → ◌≡◌ {A = Option A} (some x) (some y) → x ≡ y
-      some_same h = cc
-
-      never : {x : A} → ◌≡◌ {A = Option A} none (some x) → ⊥
-      never h = let z : ◌≡◌ {A = ℕ} 0 1 = cc in omega arith
+      let e : a ≡ l.at = cc in
+      let step-same = ap (λ v. w.sought.step v p.symbol) e in cc
 
   moves_on : {p : Place A} {t u : A} → Leads w p t → Leads w p u → Lacks p.entries t → (j : ℕ) → StandsAt p.entries j u → ⊥
   moves_on {p} a b l j s = l j (subst (λ v. StandsAt p.entries j v) (leads_same b a) s)

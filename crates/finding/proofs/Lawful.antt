@@ -14,6 +14,7 @@ use Rattle.finding.specs.Numbered.{Arrow, Firsts, Row, Rows, Numbered, all, targ
 use Rattle.finding.specs.Numbered.Firsts.{nil as f_nil, old as f_old, new as f_new}
 use Rattle.finding.specs.Numbered.Row.{end as r_end, pass as r_pass, go as r_go}
 use Rattle.finding.specs.Numbered.Rows.{end as rs_end, row as rs_row}
+use Rattle.finding.proofs.Unique.{all_++}
 use Rattle.table.proofs.Lists.{stands_is, stands_left, stands_last, stands_some, stands_past, mem_at, at_mem}
 
 -- first occurrences, one more
@@ -77,10 +78,6 @@ targets_none {A} step x a h = rw add-one (targets_++ step (upto x) (x ∷ []) a 
 targets_some : {A : Type 0} (step : A → ℕ → Option A) (x : ℕ) (a t : A) → step a x ≡ some t → targets step (upto (x + 1)) a ≡ targets step (upto x) a ++ (t ∷ [])
 targets_some {A} step x a t h = rw add-one (targets_++ step (upto x) (x ∷ []) a ∙ ap (λ (o : Option A). targets step (upto x) a ++ pick o []) h)
 
-all_++ : {A B : Type 0} (f : A → List B) (xs ys : List A) → all f (xs ++ ys) ≡ all f xs ++ all f ys
-all_++ f [] ys = refl
-all_++ f (x ∷ xs) ys = ap (λ l. f x ++ l) (all_++ f xs ys) ∙ sym (append_assoc (f x) (all f xs) (all f ys))
-
 target_mem : {A : Type 0} (step : A → ℕ → Option A) (n x : ℕ) (a t : A) → x < n → step a x ≡ some t → Memᴰ t (targets step (upto n) a)
 target_mem step zero x a t h g = absurd (omega arith)
 target_mem {A} step (suc n) x a t h g =
@@ -91,15 +88,15 @@ target_mem {A} step (suc n) x a t h g =
     (cases_lt x n))
 
 all_mem : {A : Type 0} (f : A → List A) (es : List A) (i : ℕ) (a t : A) → StandsAt es i a → Memᴰ t (f a) → Memᴰ t (all f es)
-all_mem f [] i a t s m = let z : ◌≡◌ {A = ℕ} 0 1 = cc in absurd (omega arith)
+all_mem f [] i a t s m = absurd cc
 all_mem f (e ∷ es) zero a t s m = let q : a ≡ e = cc in Memᴰ.append_left (all f es) (subst (λ v. Memᴰ t (f v)) q m)
 all_mem f (e ∷ es) (suc i) a t s m = Memᴰ.append_right (f e) (all_mem f es i a t s m)
 
 -- a list that ends in u, parted before e: either e is that u, or the parting stands before it
 pub parts_push : {A : Type 0} (es : List A) (u e : A) (before after : List A) → es ++ (u ∷ []) ≡ before ++ (e ∷ after) → ((es ≡ before) × (u ≡ e)) ⊎ ((rest : List A) × (es ≡ before ++ (e ∷ rest)))
 parts_push [] u e [] after q = inl (refl, cc)
-parts_push [] u e (b ∷ []) after q = let z : ◌≡◌ {A = ℕ} 0 1 = cc in absurd (omega arith)
-parts_push [] u e (b ∷ (d ∷ before)) after q = let z : ◌≡◌ {A = ℕ} 0 1 = cc in absurd (omega arith)
+parts_push [] u e (b ∷ []) after q = absurd cc
+parts_push [] u e (b ∷ (d ∷ before)) after q = absurd cc
 parts_push (x ∷ es) u e [] after q = inr (es, let k : x ≡ e = cc in ap (λ v. v ∷ es) k)
 parts_push (x ∷ es) u e (b ∷ before) after q =
     let k : x ≡ b = cc in
@@ -184,8 +181,8 @@ module _ {A : Type 0} (step : A → ℕ → Option A) (n : ℕ) (start : A) wher
     where
       only : (before after : List A) (e : A) → start ∷ [] ≡ before ++ (e ∷ after) → before ≢ [] → Memᴰ e (all T before)
       only [] after e q ne = absurd (ne refl)
-      only (b ∷ []) after e q ne = let z : ◌≡◌ {A = ℕ} 0 1 = cc in absurd (omega arith)
-      only (b ∷ (d ∷ before)) after e q ne = let z : ◌≡◌ {A = ℕ} 0 1 = cc in absurd (omega arith)
+      only (b ∷ []) after e q ne = absurd cc
+      only (b ∷ (d ∷ before)) after e q ne = absurd cc
 
 abbrev KnownAt : {A : Type 0} (w : Bounded A) (start : A) → Place A → Type 0
 KnownAt w start p = Known w.sought.step w.sought.symbols start p.entries p.moves p.entry p.symbol

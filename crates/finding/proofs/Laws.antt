@@ -19,7 +19,7 @@ use Rattle.finding.proofs.Unique.{begins, firsts_mem, firsts_unseen, found_uniqu
 
 -- a list parted where t stands at place j
 parted : {A : Type 0} {t : A} (es : List A) (j : ℕ) → StandsAt es j t → (before : List A) × (after : List A) × (es ≡ before ++ (t ∷ after)) × (length before ≡ j)
-parted [] j h = let z : ◌≡◌ {A = ℕ} 0 1 = cc in absurd (omega arith)
+parted [] j h = absurd cc
 parted {t = t} (e ∷ es) zero h = ([], es, (let k : e ≡ t = cc in ap (λ x. x ∷ es) k), refl)
 parted (e ∷ es) (suc j) h = let (b, a, q, l) = parted es j h in (e ∷ b, a, ap (λ x. e ∷ x) q, ap suc l)
 
@@ -31,7 +31,7 @@ apart_tail : {A : Type 0} (e : A) (es : List A) → Apart (e ∷ es) → Apart e
 apart_tail e es d x before after q m = d x (e ∷ before) after (ap (λ l. e ∷ l) q) (Memᴰ.tail m)
 
 apart_distinct : {A : Type 0} (es : List A) → Apart es → Distinct es
-apart_distinct [] d j k t p q = let z : ◌≡◌ {A = ℕ} 0 1 = cc in absurd (omega arith)
+apart_distinct [] d j k t p q = absurd cc
 apart_distinct (e ∷ es) d zero zero t p q = refl
 apart_distinct (e ∷ es) d zero (suc k) t p q =
     let (b, a, w, l) = parted es k q in let s : t ≡ e = cc in absurd (d t (e ∷ b) a (ap (λ l. e ∷ l) w) (Memᴰ.head s))
@@ -52,7 +52,7 @@ pick_cases none l t m = inr m
 pick_cases (some u) l t m = ⊎_elim (λ e. inl (ap some (sym e))) inr (Memᴰ.cases_cons m)
 
 pick_some : {A : Type 0} (o : Option A) (l : List A) (t : A) → o ≡ some t → Memᴰ t (pick o l)
-pick_some none l t e = let z : ◌≡◌ {A = ℕ} 0 1 = cc in absurd (omega arith)
+pick_some none l t e = absurd cc
 pick_some (some u) l t e = Memᴰ.head (let k : t ≡ u = cc in k)
 
 pick_rest : {A : Type 0} (o : Option A) (l : List A) (t : A) → Memᴰ t l → Memᴰ t (pick o l)
@@ -99,7 +99,7 @@ row_only {es = es} {st} {i} (go {x = y} {j = j} u h l r) m k =
 row_has : {A : Type 0} {es : List A} {st : ℕ → Option A} {i : ℕ} {xs : List ℕ} {ms : List Arrow} {x : ℕ} {t : A} → Row es st i xs ms → Memᴰ x xs → st x ≡ some t → (j : ℕ) × Memᴰ (i, x, j) ms × StandsAt es j t
 row_has row_end m e = absurd (Memᴰ.not-nil m)
 row_has {st = st} {x = x} (pass h r) m e =
-    ⊎_elim (λ q. let k = ap st q in let z : ◌≡◌ {A = ℕ} 0 1 = cc in absurd (omega arith)) (λ k. row_has r k e) (Memᴰ.cases_cons m)
+    ⊎_elim (λ q. let k = ap st q in absurd cc) (λ k. row_has r k e) (Memᴰ.cases_cons m)
 row_has {es = es} {st} {i} {x = x} {t} (go {x = y} {j = j} u h l r) m e =
     ⊎_elim (λ q. let k : t ≡ u = (let k = ap st q in cc) in (j, Memᴰ.head (let k : x ≡ y = q in cc), l ∙ ap some (sym k)))
     (λ k. let (n, w, z) = row_has r k e in (n, Memᴰ.tail w, z))
@@ -125,7 +125,7 @@ rows_only {i = i} (row {a = a} {ms = ms} r rs) m k =
     (Memᴰ.append_cases ms k)
 
 rows_has : {A : Type 0} {es : List A} {step : A → ℕ → Option A} {symbols : List ℕ} {i : ℕ} {bs : List A} {ms : List Arrow} → Rows es step symbols i bs ms → {x : ℕ} {a t : A} (k : ℕ) → StandsAt bs k a → Memᴰ x symbols → step a x ≡ some t → (j : ℕ) × Memᴰ (i + k, x, j) ms × StandsAt es j t
-rows_has rows_end k g m e = let z : ◌≡◌ {A = ℕ} 0 1 = cc in absurd (omega arith)
+rows_has rows_end k g m e = absurd cc
 rows_has {step = step} {i = i} (row {a = c} {ms = ms} {ns = ns} r rs) {x} {a} {t} zero g m e =
     let ca : c ≡ a = cc in
     let (j, w, z) = row_has r m (ap (λ y. step y x) ca ∙ e) in
@@ -153,8 +153,8 @@ rows_rising o (row {ms = ms} {ns = ns} r rs) =
 row_same : {A : Type 0} {es : List A} {st : ℕ → Option A} {i : ℕ} → Distinct es → {xs : List ℕ} {ms : List Arrow} → Row es st i xs ms → {ns : List Arrow} → Row es st i xs ns → ms ≡ ns
 row_same d row_end row_end = refl
 row_same d (pass h r) (pass k s) = row_same d r s
-row_same d (pass h r) (go t k l s) = let z : ◌≡◌ {A = ℕ} 0 1 = cc in absurd (omega arith)
-row_same d (go t k l s) (pass h r) = let z : ◌≡◌ {A = ℕ} 0 1 = cc in absurd (omega arith)
+row_same d (pass h r) (go t k l s) = absurd cc
+row_same d (go t k l s) (pass h r) = absurd cc
 row_same {es = es} d (go {j = j} t h l r) (go {j = k} u g m s) =
     let w = row_same d r s in
     let tu : t ≡ u = cc in

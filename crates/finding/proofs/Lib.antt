@@ -9,3 +9,4 @@ pub mod Starting
 pub mod Limited
 pub mod Plain
 pub mod Bounds
+pub mod Seeking

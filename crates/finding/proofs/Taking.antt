@@ -95,3 +95,9 @@ module _ {E A N : Type 0} (s : Search A) (f f' : E → A) (v : N → ℕ) (ready
             more = omega arith;
             turn = moved_new q lacks free;
           }
+
+      -- the same, where the rows and the count of entries are known to be those
+      pub moved_to : {rows' ends : List E} {to k j : ℕ} → FoundOrAdded rows n a (Some to) rows' k → arrow v w ≡ (i, x, to) → j ≡ k → ends ≡ rows' → Moved s f f' v ready rows ends moves (set moves m w) n m i x (record { entries = j; moves = m + 1 })
+      moved_to {rows' = rows'} {ends} {j = j} h q r p =
+          subst (λ l. Moved s f f' v ready rows l moves (set moves m w) n m i x (record { entries = j; moves = m + 1 })) (sym p)
+          (subst (λ z. Moved s f f' v ready rows rows' moves (set moves m w) n m i x (record { entries = z; moves = m + 1 })) (sym r) (moved h q))

@@ -1,10 +1,11 @@
 -- What is found from a start in finding order is one list.
-use Rattle.std.proofs.Common.{◌≡◌, ℕ, ◌≢◌, ◌⊎◌, List, [], ◌∷◌, ◌++◌, sym, refl, ap, ◌∙◌, subst, inl, inr, ⊎_elim, append_assoc, append-nil, arith}
+use Rattle.std.proofs.Common.{◌≡◌, ◌≢◌, ◌⊎◌, List, [], ◌∷◌, ◌++◌, sym, refl, ap, ◌∙◌, subst, inl, inr, ⊎_elim, append_assoc, append-nil}
+use mathlib.Core.List.Memᴰ
 use mathlib.Core.List.{Memᴰ, append_cancel_left}
 use Rattle.finding.specs.Numbered.{Firsts, Found, all}
 use Rattle.finding.specs.Numbered.Firsts.{nil, old, new}
 
-all_++ : {A B : Type 0} (f : A → List B) (xs ys : List A) → all f (xs ++ ys) ≡ all f xs ++ all f ys
+pub all_++ : {A B : Type 0} (f : A → List B) (xs ys : List A) → all f (xs ++ ys) ≡ all f xs ++ all f ys
 all_++ f [] ys = refl
 all_++ f (x ∷ xs) ys = ap (λ l. f x ++ l) (all_++ f xs ys) ∙ sym (append_assoc (f x) (all f xs) (all f ys))
 
@@ -31,18 +32,18 @@ firsts_split (t ∷ ts) us (new h f) =
 
 -- whatever stands in the list was seen or is listed
 pub firsts_mem : {A : Type 0} {e : A} {seen ts ns : List A} → Firsts seen ts ns → Memᴰ e ts → Memᴰ e seen ⊎ Memᴰ e ns
-firsts_mem nil m = absurd (mathlib.Core.List.Memᴰ.not-nil m)
-firsts_mem {e = e} {seen} (old h f) m = ⊎_elim (λ q. inl (subst (λ x. Memᴰ x seen) (sym q) h)) (firsts_mem f) (mathlib.Core.List.Memᴰ.cases_cons m)
+firsts_mem nil m = absurd (Memᴰ.not-nil m)
+firsts_mem {e = e} {seen} (old h f) m = ⊎_elim (λ q. inl (subst (λ x. Memᴰ x seen) (sym q) h)) (firsts_mem f) (Memᴰ.cases_cons m)
 firsts_mem {e = e} {seen} (new {t = t} {ns = ns} h f) m =
-    ⊎_elim (λ q. inr (mathlib.Core.List.Memᴰ.head q)) (λ k. ⊎_elim (λ z. ⊎_elim inl (λ y. inr (one y)) (mathlib.Core.List.Memᴰ.append_cases seen z)) (λ z. inr (mathlib.Core.List.Memᴰ.tail z)) (firsts_mem f k)) (mathlib.Core.List.Memᴰ.cases_cons m)
+    ⊎_elim (λ q. inr (Memᴰ.head q)) (λ k. ⊎_elim (λ z. ⊎_elim inl (λ y. inr (one y)) (Memᴰ.append_cases seen z)) (λ z. inr (Memᴰ.tail z)) (firsts_mem f k)) (Memᴰ.cases_cons m)
   where
     one : Memᴰ e (t ∷ []) → Memᴰ e (t ∷ ns)
-    one y = ⊎_elim mathlib.Core.List.Memᴰ.head (λ z. absurd (mathlib.Core.List.Memᴰ.not-nil z)) (mathlib.Core.List.Memᴰ.cases_cons y)
+    one y = ⊎_elim Memᴰ.head (λ z. absurd (Memᴰ.not-nil z)) (Memᴰ.cases_cons y)
 
 -- nothing is listed that was seen, and nothing twice
 pub firsts_unseen : {A : Type 0} {seen ts ns : List A} → Firsts seen ts ns → (e : A) (before after : List A) → ns ≡ before ++ (e ∷ after) → Memᴰ e (seen ++ before) → ⊥
-firsts_unseen nil e [] after q m = let z : ◌≡◌ {A = ℕ} 0 1 = cc in omega arith
-firsts_unseen nil e (x ∷ before) after q m = let z : ◌≡◌ {A = ℕ} 0 1 = cc in omega arith
+firsts_unseen nil e [] after q m = cc
+firsts_unseen nil e (x ∷ before) after q m = cc
 firsts_unseen (old h f) e before after q m = firsts_unseen f e before after q m
 firsts_unseen {seen = seen} (new {t = t} h f) e [] after q m =
     let k : e ≡ t = cc in h (subst (λ x. Memᴰ x seen) k (rw append-nil at m))
@@ -52,14 +53,14 @@ firsts_unseen {seen = seen} (new {t = t} h f) e (x ∷ before) after q m =
 
 -- a list that begins with `before` or is a part of it: where it holds the next element, it goes on past `before`
 past : {A : Type 0} (e : A) (before after front back : List A) → before ++ (e ∷ after) ≡ front ++ back → Memᴰ e front → (Memᴰ e before → ⊥) → (m : List A) × (front ≡ before ++ (e ∷ m))
-past e [] after [] back q i n = absurd (mathlib.Core.List.Memᴰ.not-nil i)
+past e [] after [] back q i n = absurd (Memᴰ.not-nil i)
 past e [] after (f ∷ front) back q i n = (front, let k : f ≡ e = cc in ap (λ x. x ∷ front) k)
-past e (b ∷ before) after [] back q i n = absurd (mathlib.Core.List.Memᴰ.not-nil i)
+past e (b ∷ before) after [] back q i n = absurd (Memᴰ.not-nil i)
 past {A} e (b ∷ before) after (f ∷ front) back q i n =
     let k : f ≡ b = cc in
     let r : before ++ (e ∷ after) ≡ front ++ back = cc in
-    let j : Memᴰ e front = ⊎_elim (λ z. absurd (n (mathlib.Core.List.Memᴰ.head (z ∙ k)))) (λ z. z) (mathlib.Core.List.Memᴰ.cases_cons i) in
-    let (m, w) = past e before after front back r j (λ z. n (mathlib.Core.List.Memᴰ.tail z)) in
+    let j : Memᴰ e front = ⊎_elim (λ z. absurd (n (Memᴰ.head (z ∙ k)))) (λ z. z) (Memᴰ.cases_cons i) in
+    let (m, w) = past e before after front back r j (λ z. n (Memᴰ.tail z)) in
     (m, ap (λ x. x ∷ front) k ∙ ap (λ l. b ∷ l) w)
 
 module _ {A : Type 0} (targets : A → List A) (start : A) where
@@ -80,20 +81,20 @@ module _ {A : Type 0} (targets : A → List A) (start : A) where
       let a = lead f before (e ∷ after) p in
       let b = lead g before rest q in
       let same : a.front ≡ b.front = firsts_same a.firsts b.firsts in
-      let here : Memᴰ e a.front = ⊎_elim (λ z. absurd (mathlib.Core.List.Memᴰ.not-nil z)) (λ z. z) (firsts_mem a.firsts (mathlib.Core.List.Memᴰ.tail (f.earlier before after e p ne))) in
+      let here : Memᴰ e a.front = ⊎_elim (λ z. absurd (Memᴰ.not-nil z)) (λ z. z) (firsts_mem a.firsts (Memᴰ.tail (f.earlier before after e p ne))) in
       let (m, w) = past e before after a.front a.back (sym p ∙ a.joins) here (λ z. firsts_unseen f.in_order e before after p z) in
       (m ++ b.back, append_cancel_left before rest (e ∷ (m ++ b.back)) (sym q ∙ b.joins ∙ ap (λ l. l ++ b.back) (sym same ∙ w) ∙ append_assoc before (e ∷ m) b.back))
 
   snoc_ne : (xs : List A) (x : A) → xs ++ (x ∷ []) ≢ []
-  snoc_ne [] x e = let z : ◌≡◌ {A = ℕ} 0 1 = cc in omega arith
-  snoc_ne (y ∷ ys) x e = let z : ◌≡◌ {A = ℕ} 0 1 = cc in omega arith
+  snoc_ne [] x e = cc
+  snoc_ne (y ∷ ys) x e = cc
 
   rest_same : {es fs : List A} → Found targets start es → Found targets start fs → (rest other before : List A) → before ≢ [] → es ≡ before ++ rest → fs ≡ before ++ other → rest ≡ other
   rest_same f g [] [] before ne p q = refl
   rest_same f g [] (o ∷ other) before ne p q =
-      let (m, w) = goes_on g f before ne o other [] q p in let z : ◌≡◌ {A = ℕ} 0 1 = cc in absurd (omega arith)
+      let (m, w) = goes_on g f before ne o other [] q p in absurd cc
   rest_same f g (e ∷ rest) [] before ne p q =
-      let (m, w) = goes_on f g before ne e rest [] p q in let z : ◌≡◌ {A = ℕ} 0 1 = cc in absurd (omega arith)
+      let (m, w) = goes_on f g before ne e rest [] p q in absurd cc
   rest_same f g (e ∷ rest) (o ∷ other) before ne p q =
       let (m, w) = goes_on f g before ne e rest (o ∷ other) p q in
       let k : o ≡ e = cc in
@@ -101,13 +102,13 @@ module _ {A : Type 0} (targets : A → List A) (start : A) where
       cc
 
   pub begins : {ts es : List A} → Firsts [] (start ∷ ts) es → (rest : List A) × (es ≡ start ∷ rest)
-  begins (old h f) = absurd (mathlib.Core.List.Memᴰ.not-nil h)
+  begins (old h f) = absurd (Memᴰ.not-nil h)
   begins (new {ns = ns} h f) = (ns, refl)
 
   pub found_unique : {es fs : List A} → Found targets start es → Found targets start fs → es ≡ fs
   found_unique f g =
       let (r, p) = begins f.in_order in
       let (s, q) = begins g.in_order in
-      let ne : (start ∷ []) ≢ [] = (λ e. let z : ◌≡◌ {A = ℕ} 0 1 = cc in omega arith) in
+      let ne : (start ∷ []) ≢ [] = (λ e. cc) in
       let t = rest_same f g r s (start ∷ []) ne p q in
       cc

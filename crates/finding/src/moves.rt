@@ -1,7 +1,7 @@
 //! What a search writes and answers.
 
 /// A move: the number of the entry left, the symbol, the number of the entry reached.
-#[derive(Clone, Copy, PartialEq, Eq, Debug)]
+#[derive(Clone, Copy, PartialEq, Eq, Default, Debug)]
 pub struct Move<N> {
     pub from: N,
     pub symbol: u16,
@@ -14,6 +14,8 @@ pub struct Count {
     pub entries: usize,
     pub moves: usize,
 }
+
+// Not a `Count`, though of its shape: a limit in place of a count does not build.
 
 /// How many entries and moves there may be at most.
 #[derive(Clone, Copy, PartialEq, Eq, Debug)]

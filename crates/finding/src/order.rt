@@ -1,6 +1,5 @@
 //! The search in finding order.
 ghost use Rattle.std.specs.Prelude.{◌≡◌, ℕ, ◌+◌, ◌<◌, ◌≤◌, min, List, [], ◌∷◌, length, take, IfOk, MatchResult};
-ghost use Rattle.table.specs.Found.{FoundOrAdded};
 ghost use Rattle.table.specs.Lists.{Exact, StandsAt};
 ghost use Rattle.finding.specs.Finding.{within, stands, Turn, Turns, Stopped, TurnedTo};
 ghost use Rattle.finding.specs.Spaces.{Moves, Held, Answered};
@@ -10,16 +9,8 @@ use crate::space::Space;
 use table::entries::Table;
 use table::numbers::Number;
 
-/// The number of `e` in the table of the first `len` rows, if it has one or gets one, and how many rows are then in use.
-fn place<E: PartialEq + Copy>(rows: &mut [E], len: usize, e: E) -> (Option<usize>, usize)
-    requires exact { Exact (λ x' y' r'. r' ≡ E.PartialEq.eq x' y') }
-    requires len_in_bounds { len ≤ length rows.old }
-    ensures { FoundOrAdded rows.old len e result.0 rows.new result.1 }
-{
-    let mut table = Table::new(rows, len);
-    let number = table.find_or_add(e);
-    (number, table.len())
-}
+// Space, tables and count are passed one by one: methods of a struct with the three references would have to promise, beside all that stands here, that each
+// reference is kept and each table keeps its length, which parameters show by themselves.
 
 /// Takes the move of entry `i` on the symbol `x`.
 fn take_move<S: Space, N: Number>(
@@ -36,7 +27,8 @@ fn take_move<S: Space, N: Number>(
     requires here { i < found.entries }
     requires moves { (a : S.Entry) → StandsAt (take found.entries rows.old) i a → Moves (S.Space.sought (S.Space.source space.old)) (S.Space.thing space.old a) x }
     ensures source { S.Space.source space.new ≡ S.Space.source space.old }
-    ensures held { IfOk result (λ c. Held (S.Space.ready space.new) rows.new moves.new c × (found.entries ≤ c.entries)) }
+    ensures held { IfOk result (λ c. Held (S.Space.ready space.new) rows.new moves.new c) }
+    ensures more { IfOk result (λ c. found.entries ≤ c.entries) }
     ensures turn { MatchResult result
         (λ c. Turn (within (S.Space.sought (S.Space.source space.old)) (length rows.old) (length moves.old))
         (stands (S.Space.thing space.old) N.Number.value rows.old found.entries moves.old found.moves i x)
@@ -48,10 +40,11 @@ fn take_move<S: Space, N: Number>(
     let Some(t) = space.reach(e, x) else {
         return Err(Stop::Room(i));
     };
-    let (number, entries) = place(rows, found.entries, t);
-    let Some(to) = number else {
+    let mut table = Table::new(rows, found.entries);
+    let Some(to) = table.find_or_add(t) else {
         return Err(Stop::Entry(found.entries));
     };
+    let entries = table.len();
     if found.moves == moves.len() {
         return Err(Stop::Arrow(i, found.moves));
     }
@@ -79,7 +72,8 @@ fn visit<S: Space, N: Number>(
     requires short { length rows.old ≤ 65536 }
     requires here { i < found.entries }
     ensures source { S.Space.source space.new ≡ S.Space.source space.old }
-    ensures held { IfOk result (λ c. Held (S.Space.ready space.new) rows.new moves.new c × (found.entries ≤ c.entries)) }
+    ensures held { IfOk result (λ c. Held (S.Space.ready space.new) rows.new moves.new c) }
+    ensures more { IfOk result (λ c. found.entries ≤ c.entries) }
     ensures turns { MatchResult result
         (λ c. Turns (within (S.Space.sought (S.Space.source space.old)) (length rows.old) (length moves.old))
         (stands (S.Space.thing space.old) N.Number.value rows.old found.entries moves.old found.moves i 0)
@@ -87,6 +81,7 @@ fn visit<S: Space, N: Number>(
         (λ s. TurnedTo (within (S.Space.sought (S.Space.source space.old)) (length rows.old) (length moves.old))
         (stands (S.Space.thing space.old) N.Number.value rows.old found.entries moves.old found.moves i 0) s) }
 {
+    // A cursor: each move taken changes the space that is asked for the next, which no iterator can hold meanwhile.
     let mut x = 0;
     while let Some(y) = space.next_symbol(rows[i], x) {
         found = take_move(space, rows, moves, found, i, y)?;
@@ -118,6 +113,7 @@ fn number_all<S: Space, N: Number>(
         entries: 1,
         moves: 0,
     };
+    // An index: the loop's bound grows as it runs, which no iterator follows.
     let mut i = 0;
     while i < found.entries {
         found = visit(space, rows, moves, found, i)?;

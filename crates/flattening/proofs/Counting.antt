@@ -1,30 +1,15 @@
--- Counting the moves on words, one by one.
-use Rattle.std.proofs.Common.{◌≡◌, ℕ, ◌+◌, ◌<◌, ◌≤◌, Bool, true, false, ltb, List, [], ◌∷◌, ◌++◌, length, ap, ⊎_elim, arith, le-ltb, lt-ltb}
-use Rattle.finding.specs.Numbered.{Arrow}
-use Rattle.theory.specs.Lists.{keep}
+-- Counting the moves on words.
+use Rattle.std.proofs.Common.{◌≡◌, ℕ, ◌+◌, Bool, true, false, cond, ltb, List, ◌∷◌, length, refl, arith}
+use Rattle.std.specs.List.{count_by}
+use Rattle.std.proofs.lemmas.List.Recursion.{is_count_by}
+use Rattle.table.specs.declared.numbers.NodeNo.{NodeNo}
+use Rattle.finding.specs.declared.moves.Move.{Move}
 use Rattle.theory.specs.Flattening.{word_moves}
-use Rattle.theory.proofs.Lists.{true_or_false, keep_take, keep_leave}
+use Rattle.flattening.specs.Walks.{arrows}
 
-module _ {A : Type 0} (test : A → Bool) where
-  -- one element more at the end
-  pub keep_push : (xs : List A) (x : A) → test x ≡ true → length (keep test (xs ++ (x ∷ []))) ≡ length (keep test xs) + 1
-  keep_push [] x e = let a = ap length (keep_take test x [] e) in omega arith
-  keep_push (y ∷ xs) x e =
-      let r = keep_push xs x e in
-      ⊎_elim (λ t. let a = ap length (keep_take test y (xs ++ (x ∷ [])) t) in let b = ap length (keep_take test y xs t) in omega arith)
-      (λ f. let a = ap length (keep_leave test y (xs ++ (x ∷ [])) f) in let b = ap length (keep_leave test y xs f) in omega arith)
-      (true_or_false (test y))
-
-  pub keep_pass : (xs : List A) (x : A) → test x ≡ false → length (keep test (xs ++ (x ∷ []))) ≡ length (keep test xs)
-  keep_pass [] x e = ap length (keep_leave test x [] e)
-  keep_pass (y ∷ xs) x e =
-      let r = keep_pass xs x e in
-      ⊎_elim (λ t. let a = ap length (keep_take test y (xs ++ (x ∷ [])) t) in let b = ap length (keep_take test y xs t) in omega arith)
-      (λ f. let a = ap length (keep_leave test y (xs ++ (x ∷ [])) f) in let b = ap length (keep_leave test y xs f) in omega arith)
-      (true_or_false (test y))
-
-pub count_word : (words : ℕ) (ms : List Arrow) (m : Arrow) → m.1 < words → length (word_moves words (ms ++ (m ∷ []))) ≡ length (word_moves words ms) + 1
-count_word words ms m h = keep_push (λ (a : Arrow). ltb a.1 words) ms m (lt-ltb m.1 words h)
-
-pub count_name : (words : ℕ) (ms : List Arrow) (m : Arrow) → words ≤ m.1 → length (word_moves words (ms ++ (m ∷ []))) ≡ length (word_moves words ms)
-count_name words ms m h = keep_pass (λ (a : Arrow). ltb a.1 words) ms m (le-ltb m.1 words h)
+pub words_counted : (words : ℕ) (moves : List (Move NodeNo)) → length (word_moves words (arrows moves)) ≡ count_by (λ m. ltb m.symbol words) moves
+words_counted words = is_count_by (λ ms. length (word_moves words (arrows ms))) (λ m. ltb m.symbol words) refl (λ m ms. one (ltb m.symbol words) _ _)
+  where
+    one : {A : Type 0} (b : Bool) (x : A) (xs : List A) → length {A = A} (elim b [ true ↦ x ∷ xs | false ↦ xs ]) ≡ cond b (1 + length xs) (length xs)
+    one true x xs = omega arith
+    one false x xs = refl

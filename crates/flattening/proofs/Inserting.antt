@@ -145,19 +145,6 @@ abbrev pub Sooner : {A : Type 0} → (A → A → Type 0) → Option A → A →
 Sooner R None j o = o ≡ Some j
 Sooner R (Some b) j o = (R j b × (o ≡ Some j)) ⊎ ((R j b → ⊥) × (o ≡ Some b))
 
-module _ {A : Type 0} (R : A → A → Type 0) (j : A) where
-  pub sooner_first : (o : Option A) → ((b : A) → o ≡ Some b → ⊥) → Sooner R o j (Some j)
-  sooner_first None n = refl
-  sooner_first (Some b) n = absurd (n b refl)
-
-  pub sooner_new : (o : Option A) (b : A) → o ≡ Some b → R j b → Sooner R o j (Some j)
-  sooner_new None b e h = refl
-  sooner_new (Some c) b e h = let q : b ≡ c = cc in inl (subst (R j) q h, refl)
-
-  pub sooner_still : (o : Option A) (b : A) → o ≡ Some b → (R j b → ⊥) → Sooner R o j o
-  sooner_still None b e n = let z : ◌≡◌ {A = ℕ} 0 1 = cc in absurd (omega arith)
-  sooner_still (Some c) b e n = let q : c ≡ b = cc in inr ((λ h. n (subst (R j) q h)), refl)
-
 -- the list begins with this, if with anything
 abbrev Begins : {A : Type 0} → List A → Option A → Type 0
 Begins back None = back ≡ []

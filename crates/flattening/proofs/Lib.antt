@@ -1,4 +1,3 @@
-pub mod Halving
 pub mod Targets
 pub mod Inserting
 pub mod Tables

@@ -1,13 +1,18 @@
 -- The table of jumps keeps one jump more.
-use Rattle.std.proofs.Common.{◌≡◌, ℕ, suc, ◌+◌, ◌-◌, ◌<◌, ◌≤◌, ◌↔◌, List, [], ◌∷◌, ◌++◌, length, get_or, take, drop, Some, None, Option, sym, refl, ap, ◌∙◌, subst, inl, inr, ⊎_elim, arith}
+use Rattle.std.proofs.Common.{◌≡◌, cond, Ok, Err, Result, MatchResult, ℕ, suc, ◌+◌, ◌-◌, ◌<◌, ◌≤◌, ◌↔◌, List, [], ◌∷◌, ◌++◌, length, get_or, take, drop, Some, None, Option, sym, refl, ap, ◌∙◌, subst, inl, inr, ⊎_elim, arith}
 use mathlib.Core.List.Memᴰ
 use mathlib.Core.List.{Memᴰ}
 use Rattle.std.specs.List.{insert}
 use Rattle.std.proofs.lemmas.List.{take-take, take_all, take_at, take-append-drop, length-take, length-take-le}
 use Rattle.std.proofs.lemmas.List.Edits.{length-insert}
 use Rattle.std.proofs.lemmas.Bool.{cases_lt}
+use Rattle.std.specs.Cmp.{ranks}
+use Rattle.std.specs.List.Sorted.{IsNonDecreasingBy, IsSearchInRange, IsBinarySearchResult}
+use Rattle.std.specs.Ordering.{MatchOrdering, nat_cmp, ord_min, ordering_index, ordering_then, is_lt}
+use Rattle.std.specs.declared.cmp.Ordering.{Ordering}
+use Rattle.std.specs.declared.cmp.Ordering.TheVariants.{Less, Equal, Greater}
 use Rattle.table.specs.Lists.{StandsAt, Lacks, InOrder}
-use Rattle.table.proofs.Lists.{mem_at, at_mem, stands_below, stands_getD, stands_some}
+use Rattle.table.proofs.Lists.{mem_at, at_mem, stands_below, stands_getD, stands_is}
 use Rattle.table.proofs.Orders.{in_order_none}
 use Rattle.flattening.specs.declared.jump.Jump.{Jump}
 use Rattle.flattening.specs.declared.kept.JumpTable.{JumpTable}
@@ -30,27 +35,95 @@ before_apart x y h k = omega arith
 pub jump_same : (x y : Jump) → x.from.0 ≡ y.from.0 → x.to.0 ≡ y.to.0 → x ≡ y
 jump_same x y p q = λ i. record { from = record { 0 = p i }; to = record { 0 = q i } }
 
+-- the order that `cmp` gives
+abbrev pub jump_cmp : Jump → Jump → Ordering
+jump_cmp x y = ordering_then (nat_cmp x.from.0 y.from.0) (nat_cmp x.to.0 y.to.0)
+
+-- what it tells
+pub ranked : (x y : Jump) → MatchOrdering (jump_cmp x y) (Before x y) (x ≡ y) (Before y x)
+ranked x y = both (nat_cmp x.from.0 y.from.0) (nat_cmp x.to.0 y.to.0) (ranks x.from.0 y.from.0) (ranks x.to.0 y.to.0)
+  where
+    both : (a b : Ordering) → MatchOrdering a (x.from.0 < y.from.0) (x.from.0 ≡ y.from.0) (y.from.0 < x.from.0) → MatchOrdering b (x.to.0 < y.to.0) (x.to.0 ≡ y.to.0) (y.to.0 < x.to.0)
+        → MatchOrdering (ordering_then a b) (Before x y) (x ≡ y) (Before y x)
+    both Less b h k = inl h
+    both Greater b h k = inl h
+    both Equal Less h k = inr (h, k)
+    both Equal Equal h k = jump_same x y h k
+    both Equal Greater h k = inr (sym h, k)
+
+pub before_less : (x y : Jump) → Before x y → jump_cmp x y ≡ Less
+before_less x y b = case (jump_cmp x y) (ranked x y)
+  where
+    case : (o : Ordering) → MatchOrdering o (Before x y) (x ≡ y) (Before y x) → o ≡ Less
+    case Less h = refl
+    case Equal h = (let c : Before y y = subst (λ z. Before z y) h b in absurd (before_apart y y c c))
+    case Greater h = absurd (before_apart x y b h)
+
 pub before_compare : (x y : Jump) → Compared Before x y
-before_compare x y =
-    ⊎_elim (λ h. inl (inl h))
-    (λ h. ⊎_elim (λ k. inr (inr (inl k)))
-    (λ k. let e : x.from.0 ≡ y.from.0 = omega arith in
-    ⊎_elim (λ l. inl (inr (e, l)))
-    (λ l. ⊎_elim (λ m. inr (inr (inr (sym e, m)))) (λ m. inr (inl (jump_same x y e (omega arith)))) (cases_lt y.to.0 x.to.0))
-    (cases_lt x.to.0 y.to.0))
-    (cases_lt y.from.0 x.from.0))
-    (cases_lt x.from.0 y.from.0)
+before_compare x y = case (jump_cmp x y) (ranked x y)
+  where
+    case : (o : Ordering) → MatchOrdering o (Before x y) (x ≡ y) (Before y x) → Compared Before x y
+    case Less h = inl h
+    case Equal h = inr (inl h)
+    case Greater h = inr (inr h)
+
+-- the lesser of two is the sooner
+pub sooner_min : (j b : Jump) → Sooner Before (Some b) j (Some (ord_min jump_cmp b j))
+sooner_min j b = case (jump_cmp j b) (ranked j b)
+  where
+    case : (o : Ordering) → MatchOrdering o (Before j b) (j ≡ b) (Before b j) → Sooner Before (Some b) j (Some (cond (is_lt o) j b))
+    case Less h = inl (h, refl)
+    case Equal h = inr ((λ k. let c : Before b b = subst (λ z. Before z b) h k in before_apart b b c c), refl)
+    case Greater h = inr ((λ k. before_apart j b k h), refl)
+
+-- ── where a jump stands or belongs among rows in order ──
+
+module _ (rows : List Jump) (j : Jump) (rising : InOrder Before rows) where
+  cmp_rises : IsNonDecreasingBy (λ y. ordering_index (jump_cmp y j)) rows
+  cmp_rises i k d l h =
+      ⊎_elim
+      (λ s. later (get_or rows i d) (get_or rows k d) (jump_cmp (get_or rows k d) j) (ranked (get_or rows k d) j) (rising i k _ _ s (stands_getD rows i d (omega arith)) (stands_getD rows k d h)))
+      (λ s. let e : i ≡ k = omega arith in subst (λ n. ordering_index (jump_cmp (get_or rows i d) j) ≤ ordering_index (jump_cmp (get_or rows n d) j)) e (omega arith))
+      (cases_lt i k)
+    where
+      most : (o : Ordering) → ordering_index o ≤ 2
+      most Less = omega arith
+      most Equal = omega arith
+      most Greater = omega arith
+
+      later : (x y : Jump) (o : Ordering) → MatchOrdering o (Before y j) (y ≡ j) (Before j y) → Before x y → ordering_index (jump_cmp x j) ≤ ordering_index o
+      later x y Less h b = let e = ap ordering_index (before_less x j (before_onward x y j b h)) in omega arith
+      later x y Equal h b = let e = ap ordering_index (before_less x j (subst (Before x) h b)) in omega arith
+      later x y Greater h b = most (jump_cmp x j)
+
+  is_it : (t : Jump) → jump_cmp t j ≡ Equal → t ≡ j
+  is_it t e = subst (λ o. MatchOrdering o (Before t j) (t ≡ j) (Before j t)) e (ranked t j)
+
+  less : (t : Jump) → jump_cmp t j ≡ Less → Before t j
+  less t e = subst (λ o. MatchOrdering o (Before t j) (t ≡ j) (Before j t)) e (ranked t j)
+
+  greater : (t : Jump) → jump_cmp t j ≡ Greater → Before j t
+  greater t e = subst (λ o. MatchOrdering o (Before t j) (t ≡ j) (Before j t)) e (ranked t j)
+
+  pub found_or_belongs : (r : Result ℕ ℕ) → IsSearchInRange r (length rows) → IsBinarySearchResult (λ y. jump_cmp y j) rows r
+      → MatchResult r (λ i. StandsAt rows i j) (λ i. PlaceOf Before rows j i × Lacks rows j)
+  found_or_belongs (Ok i) b p = subst (StandsAt rows i) (is_it (get_or rows i j) (p j)) (stands_getD rows i j b)
+  found_or_belongs (Err i) b p =
+      let (front, rest) = p cmp_rises in
+      let low : (k : ℕ) (t : Jump) → k < i → StandsAt rows k t → Before t j = λ k t h s. less t (subst (λ z. jump_cmp z j ≡ Less) (stands_is rows k t t s) (front k t (omega arith) h)) in
+      let high : (k : ℕ) (t : Jump) → i ≤ k → StandsAt rows k t → Before j t = λ k t h s. greater t (subst (λ z. jump_cmp z j ≡ Greater) (stands_is rows k t t s) (rest k t h (stands_below rows k t s))) in (
+        record { within = b; front = low; rest = λ k t h s c. before_apart t j c (high k t h s) },
+        (λ k s. let own : Before j j → ⊥ = λ c. before_apart j j c c in ⊎_elim (λ h. own (low k j h s)) (λ h. own (high k j h s)) (cases_lt k i)),
+      )
 
 -- ── nothing found ──
 
-pub keeps_none : (t : JumpTable) → t.limit ≤ length t.rows.now → t.len ≡ 0 → t.beyond ≡ None → Keeps [] t
-keeps_none t l e b =
+pub keeps_none : (t : JumpTable) → t.len ≡ 0 → t.beyond ≡ None → Keeps [] t
+keeps_none t e b =
     record {
       all = [];
       rising = in_order_none Before;
       are = λ j. ((λ m. m), (λ m. m));
-      limited = l;
-      few = omega arith;
       rows_are = ap (λ n. take n t.rows.now) e ∙ sym (take_all t.limit [] (omega arith));
       next = subst (At [] t.limit) (sym b) (omega arith);
     }
@@ -68,7 +141,7 @@ module _ (found : List Jump) (t : JumpTable) (j : Jump) (k : Keeps found t) wher
   rows = take t.len t.rows.now
 
   rows_long : length (take t.len t.rows.now) ≡ t.len
-  rows_long = length-take-le t.len t.rows.now (let f = k.few in let l = k.limited in omega arith)
+  rows_long = length-take-le t.len t.rows.now (let f = t.few in let l = t.limited in omega arith)
 
   all_split : take t.limit k.all ++ drop t.limit k.all ≡ k.all
   all_split = take-append-drop t.limit k.all
@@ -83,8 +156,6 @@ module _ (found : List Jump) (t : JumpTable) (j : Jump) (k : Keeps found t) wher
       record {
         all = k.all;
         rising = k.rising;
-        limited = k.limited;
-        few = k.few;
         rows_are = k.rows_are;
         next = k.next;
         are = are_more (λ a. ((λ m. Memᴰ.tail m), (λ m. ⊎_elim (λ e. subst (λ b. Memᴰ b k.all) (sym e) (row_mem i j s)) (λ n. n) (Memᴰ.cases_cons m)))) k.are;
@@ -104,8 +175,6 @@ module _ (found : List Jump) (t : JumpTable) (j : Jump) (k : Keeps found t) wher
         all = take t.limit k.all ++ ys;
         rising = put_rises Before before_onward whole k.rising;
         are = are_more (put_are Before whole) k.are;
-        limited = subst (λ m. m ≤ length t'.rows.now) (sym l) (subst (λ rs. t.limit ≤ length rs) (sym r) k.limited);
-        few = (let f = k.few in omega arith);
         rows_are = ap (λ m. take m t'.rows.now) n ∙ ap (take t.len) r ∙ k.rows_are
             ∙ sym (ap (λ m. take m (take t.limit k.all ++ ys)) l ∙ take_at (take t.limit k.all) ys t.limit long);
         next = subst (λ m. At (take t.limit k.all ++ ys) m t'.beyond) (sym l) (put_next Before before_apart k.all t.limit p long t.beyond t'.beyond k.next s);
@@ -120,7 +189,7 @@ module _ (found : List Jump) (t : JumpTable) (j : Jump) (k : Keeps found t) wher
     place_low = let w = new.0.within in omega (arith, rows_long)
 
     front_is : take i k.all ≡ take i (take t.len t.rows.now)
-    front_is = let h = place_low in let f = k.few in sym (take-take i t.limit k.all (omega arith)) ∙ ap (take i) (sym k.rows_are)
+    front_is = let h = place_low in let f = t.few in sym (take-take i t.limit k.all (omega arith)) ∙ ap (take i) (sym k.rows_are)
 
     belongs : i < t.limit → (back : List Jump) → drop i k.all ≡ back → Put Before j back (j ∷ back)
     belongs h [] e = end
@@ -139,15 +208,13 @@ module _ (found : List Jump) (t : JumpTable) (j : Jump) (k : Keeps found t) wher
         let (r, b) = stands_take i (take t.len t.rows.now) n a st in
         new.0.front n a b r) (belongs h (drop i k.all) refl))
 
-    keeps_inserted : i < t.limit → (t' : JumpTable) → t'.limit ≡ t.limit → t'.limit ≤ length t'.rows.now → t'.len ≤ t'.limit
+    keeps_inserted : i < t.limit → (t' : JumpTable) → t'.limit ≡ t.limit
         → take t'.len t'.rows.now ≡ take t.limit (insert k.all i j) → At (insert k.all i j) t.limit t'.beyond → Keeps (j ∷ found) t'
-    keeps_inserted h t' l room few rows_are next =
+    keeps_inserted h t' l rows_are next =
         record {
           all = insert k.all i j;
           rising = put_rises Before before_onward (whole h) k.rising;
           are = are_more (put_are Before (whole h)) k.are;
-          limited = room;
-          few = few;
           rows_are = rows_are ∙ ap (λ m. take m (insert k.all i j)) (sym l);
           next = subst (λ m. At (insert k.all i j) m t'.beyond) (sym l) next;
         }
@@ -156,12 +223,11 @@ module _ (found : List Jump) (t : JumpTable) (j : Jump) (k : Keeps found t) wher
     pub keeps_row : (t' : JumpTable) → t.len < t.limit → t'.limit ≡ t.limit → t'.len ≡ t.len + 1
         → length t'.rows.now ≡ length t.rows.now → take (t.len + 1) t'.rows.now ≡ insert (take t.len t.rows.now) i j → t'.beyond ≡ t.beyond → Keeps (j ∷ found) t'
     keeps_row t' room l n same r b =
-        let low = place_low in let lim = k.limited in
+        let low = place_low in let lim = t.limited in
         let short : length k.all ≡ t.len = (let a = ap length k.rows_are in let c = length-take t.limit k.all in let d = rows_long in omega arith) in
         let all-is : k.all ≡ take t.len t.rows.now = sym (k.rows_are ∙ take_all t.limit k.all (omega arith)) in
         let one_more : length (insert k.all i j) ≡ length k.all + 1 = length-insert k.all i j (omega arith) in
         keeps_inserted (omega arith) t' l
-        (omega arith) (omega arith)
         (ap (λ m. take m t'.rows.now) n ∙ r
         ∙ ap (λ xs. insert xs i j) (sym all-is) ∙ sym (take_all t.limit (insert k.all i j) (omega arith)))
         (subst (At (insert k.all i j) t.limit) (sym b) (still_past t.beyond k.next (omega arith) (omega arith)))
@@ -175,7 +241,7 @@ module _ (found : List Jump) (t : JumpTable) (j : Jump) (k : Keeps found t) wher
         → length t'.rows.now ≡ length t.rows.now → take ((t.len - 1) + 1) t'.rows.now ≡ insert (take (t.len - 1) t.rows.now) i j
         → StandsAt t.rows.now (t.len - 1) last → t'.beyond ≡ Some last → Keeps (j ∷ found) t'
     keeps_full t' last full h l n same r at b =
-        let lim = k.limited in
+        let lim = t.limited in
         let size : t.limit ≡ suc (t.len - 1) = omega arith in
         let low-all : take (t.len - 1) k.all ≡ take (t.len - 1) t.rows.now =
         sym (take-take (t.len - 1) t.limit k.all (omega arith)) ∙ ap (take (t.len - 1)) (sym k.rows_are) ∙ take-take (t.len - 1) t.len t.rows.now (omega arith) in
@@ -183,7 +249,6 @@ module _ (found : List Jump) (t : JumpTable) (j : Jump) (k : Keeps found t) wher
         (stands_take t.limit k.all (t.len - 1) last (subst (λ xs. StandsAt xs (t.len - 1) last) k.rows_are (take_stands t.len t.rows.now (t.len - 1) last at (omega arith)))).0 in
         let count : t'.len ≡ (t.len - 1) + 1 = omega arith in
         keeps_inserted h t' l
-        (omega arith) (omega arith)
         (ap (λ m. take m t'.rows.now) count ∙ r
         ∙ ap (λ xs. insert xs i j) (sym low-all) ∙ sym (take_inserted k.all i (t.len - 1) j (omega arith)) ∙ ap (λ m. take m (insert k.all i j)) (sym size))
         (subst (At (insert k.all i j) t.limit) (sym b) (subst (λ m. StandsAt (insert k.all i j) m last) (sym size) (stands_inserted k.all i (t.len - 1) j last (omega arith) last-all)))
@@ -196,39 +261,14 @@ rows_in_order t n e (found, k) a b x y h p q =
     (stands_take t.limit k.all i z (subst (λ l. StandsAt l i z) (ap (λ m. take m t.rows.now) e ∙ k.rows_are) s)).0 in
     k.rising a b x y h (row a x p) (row b y q)
 
--- the bounds of a table
-pub keeps_bounds : (t : JumpTable) → ((found : List Jump) × Keeps found t) → (t.len ≤ t.limit) × (t.limit ≤ length t.rows.now)
-keeps_bounds t (found, k) = (k.few, k.limited)
-
 -- ── where a jump belongs ──
 
-module _ (t : JumpTable) (j : Jump) (i : ℕ) (b : (found : List Jump) × Keeps found t) (place : PlaceOf Before (take t.len t.rows.now) j i) where
+module _ (t : JumpTable) (j : Jump) (i : ℕ) (place : PlaceOf Before (take t.len t.rows.now) j i) where
   long : length (take t.len t.rows.now) ≡ t.len
-  long = let k = keeps_bounds t b in length-take-le t.len t.rows.now (omega arith)
-
-  pub place_bound : i ≤ t.len
-  place_bound = let w = place.within in omega (arith, long)
+  long = let f = t.few in let l = t.limited in length-take-le t.len t.rows.now (omega arith)
 
   -- at the limit, all rows come before it
   pub past_rows : i ≡ t.limit → PastRows t j
-  past_rows e = let k = keeps_bounds t b in let w = place_bound in
-      (omega arith, (λ n r s. place.front n r (let l = stands_below (take t.len t.rows.now) n r s in omega (arith, long)) s))
-
-  -- where the row at its place is another, no row holds it
-  pub new_here : ((r : Jump) → StandsAt (take t.len t.rows.now) i r → r ≡ j → ⊥) → New t j i
-  new_here other = (place, lacks)
-    where
-      lacks : Lacks (take t.len t.rows.now) j
-      lacks n s =
-          ⊎_elim (λ h. let q = place.front n j h s in before_apart j j q q)
-          (λ h. ⊎_elim (λ l. let c = stands_below (take t.len t.rows.now) n j s in
-          let (r, st) = stands_some (take t.len t.rows.now) i (omega arith) in
-          place.rest i r (omega arith) st (rows_in_order t t.len refl b i n r j l st s))
-          (λ l. let e : n ≡ i = omega arith in other j (subst (λ m. StandsAt (take t.len t.rows.now) m j) e s) refl)
-          (cases_lt i n))
-          (cases_lt n i)
-
--- a row that was read, in use
-pub row_read : (t : JumpTable) (i : ℕ) (d : Jump) → ((found : List Jump) × Keeps found t) → i < t.len → StandsAt (take t.len t.rows.now) i (get_or t.rows.now i d)
-row_read t i d b h =
-    let k = keeps_bounds t b in take_stands t.len t.rows.now i (get_or t.rows.now i d) (stands_getD t.rows.now i d (omega arith)) h
+  past_rows e =
+      let f = t.few in let w = place.within in
+      (omega (arith, long), (λ n r s. place.front n r (let l = stands_below (take t.len t.rows.now) n r s in omega (arith, long)) s))

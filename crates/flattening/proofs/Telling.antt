@@ -53,7 +53,7 @@ module _ (items : Items) (moves : List Arrow) (u : Unfolding items moves) (t : J
       }
 
   row_count : length (take t.len t.rows.now) ≡ t.len
-  row_count = let f = p.keeps.few in let l = p.keeps.limited in length-take-le t.len t.rows.now (omega arith)
+  row_count = let f = t.few in let l = t.limited in length-take-le t.len t.rows.now (omega arith)
 
   tells : (r : Result ℕ JumpFault) → Counted t r → Told t.limit (map pair p.keeps.all) r t.rows.now
   tells (Ok n) (none, e) =
@@ -61,7 +61,7 @@ module _ (items : Items) (moves : List Arrow) (u : Unfolding items moves) (t : J
       let whole : take t.len t.rows.now ≡ p.keeps.all = p.keeps.rows_are ∙ take_all t.limit p.keeps.all short in
       let long : length p.keeps.all ≡ t.len = sym (ap length whole) ∙ row_count in (
         (let c = length-map p.keeps.all pair in omega arith),
-        (let f = p.keeps.few in omega arith),
+        (let f = t.few in omega arith),
         ap (λ k. map pair (take k t.rows.now)) e ∙ ap (map pair) whole,
       )
   tells (Err f) (j, past, from) =

@@ -18,8 +18,6 @@ pub record Keeps (found : List Jump) (t : JumpTable) : Type 0 where
   pub all : List Jump
   pub rising : InOrder Before all
   pub are : (j : Jump) → Memᴰ j all ↔ Memᴰ j found
-  pub limited : t.limit ≤ length t.rows.now
-  pub few : t.len ≤ t.limit
   pub rows_are : take t.len t.rows.now ≡ take t.limit all
   pub next : At all t.limit t.beyond
 

@@ -1,4 +1,5 @@
 pub mod Places
+pub mod Rising
 pub mod Orders
 pub mod Keeping
 pub mod Walks

@@ -6,20 +6,20 @@ use book::Refusal;
 use table::numbers::NodeNo;
 
 /// There are more jumps than there may be: the first too many, in their order, leaves this node.
-#[derive(Clone, Copy)]
+#[derive(Clone, Copy, PartialEq, Eq, Debug)]
 pub struct JumpFault {
     pub from: NodeNo,
 }
 
-impl JumpFault {
-    /// The number, layer and place of the fault.
-    pub fn refusal(self) -> Refusal
-        ensures { result ≡ refusal_of self }
-    {
+/// The number, layer and place of the fault.
+impl From<JumpFault> for Refusal {
+    ghost from_gives = { λ f r. r ≡ refusal_of f };
+
+    fn from(fault: JumpFault) -> Refusal {
         Refusal {
             number: 15,
             layer: 4,
-            place: self.from.0 as usize,
+            place: fault.from.0 as usize,
         }
     }
 }

@@ -1,26 +1,27 @@
 //! The table of jumps: the first jumps in their order, in whatever order they are found.
-ghost use Rattle.std.specs.Prelude.{◌≡◌, ℕ, ◌+◌, ◌<◌, ◌≤◌, min, List, [], ◌∷◌, length, take};
+ghost use Rattle.std.specs.Prelude.{◌≡◌, ℕ, ◌+◌, ◌<◌, ◌≤◌, min, List, [], ◌∷◌, length, take, MatchResult};
 ghost use Rattle.std.specs.List.{insert};
-ghost use Rattle.table.specs.Lists.{StandsAt, Lacks};
+ghost use Rattle.table.specs.Lists.{StandsAt};
 ghost use Rattle.flattening.specs.declared.jump.Jump.{Jump as JumpOf};
-ghost use Rattle.flattening.specs.Orders.{Before};
-ghost use Rattle.flattening.specs.Places.{PlaceOf};
-ghost use Rattle.flattening.specs.Keeping.{Keeps, PastRows, New, Counted};
 
 use crate::fault::JumpFault;
 use crate::jump::Jump;
-use crate::ordered::{Ordered, place_of};
 
 /// At most so many jumps are kept, however long the table is.
 const MOST: usize = 16384;
 
 /// The first `len` of the lent rows are the first jumps found, in order; `beyond` is the next one, which has no row.
+// Each call says that the rows are still the caller's (`lent`): only by this does the caller learn what was written there.
+// What the table keeps is no ghost field: which jumps were found is no part of the table, so each call names them.
+// The limit stands beside the rows, and does not cut them: each clause `limit` would then speak of their length. Rows and a count: nothing is allocated.
 #[derive(Drop)]
 pub struct JumpTable<'a> {
     rows: &'a mut [Jump],
     limit: usize,
     len: usize,
     beyond: Option<Jump>,
+    ghost limited: { limit ≤ length rows.now },
+    ghost few: { len ≤ limit },
 }
 
 /// Shifts the rows from `at` on up by one, over the row `last`, and writes the jump where they began.
@@ -33,6 +34,8 @@ fn shift_in(rows: &mut [Jump], at: usize, last: usize, jump: Jump)
 }
 
 impl<'a> JumpTable<'a> {
+    ghost use Rattle.flattening.specs.Keeping.{Keeps, PastRows, New, Counted};
+
     /// The table over these rows, without a jump.
     pub fn new(rows: &'a mut [Jump]) -> JumpTable<'a>
         ensures limit { result.limit ≡ min (length rows.old) 16384 }
@@ -48,12 +51,12 @@ impl<'a> JumpTable<'a> {
         }
     }
 
-    /// How many rows come before the jump.
-    fn place(&self, jump: Jump) -> usize
+    /// The row that holds the jump, or the place where it belongs.
+    fn find(&self, jump: Jump) -> Result<usize, usize>
         requires { (found : List JumpOf) × Keeps found self.now }
-        ensures { PlaceOf Before (take self.now.len self.now.rows.now) jump result }
+        ensures { MatchResult result (λ i. StandsAt (take self.now.len self.now.rows.now) i jump) (λ i. New self.now jump i) }
     {
-        place_of(&self.rows[0..self.len], &jump)
+        self.rows[..self.len].binary_search(&jump)
     }
 
     /// Remembers a jump that comes after all rows, if none that is remembered comes before it.
@@ -62,17 +65,15 @@ impl<'a> JumpTable<'a> {
         ensures limit { self.new.limit ≡ self.old.limit }
         ensures keeps { (found : List JumpOf) → Keeps found self.old → PastRows self.old jump → Keeps (jump ∷ found) self.new }
     {
-        if let Some(first) = self.beyond {
-            if !jump.is_before(&first) {
-                return;
-            }
-        }
-        self.beyond = Some(jump);
+        self.beyond = Some(match self.beyond {
+            Some(first) => first.min(jump),
+            None => jump,
+        });
     }
 
     /// Puts a jump in at its place; where every row is in use, the last one gives way.
     fn insert(&mut self, at: usize, jump: Jump)
-        requires { (at ≤ self.old.len) × (at < self.old.limit) × (self.old.len ≤ self.old.limit) × (self.old.limit ≤ length self.old.rows.now) }
+        requires { (at ≤ self.old.len) × (at < self.old.limit) }
         ensures lent { self.new.rows.ghost_name ≡ self.old.rows.ghost_name }
         ensures limit { self.new.limit ≡ self.old.limit }
         ensures keeps { (found : List JumpOf) → Keeps found self.old → New self.old jump at → Keeps (jump ∷ found) self.new }
@@ -95,18 +96,11 @@ impl<'a> JumpTable<'a> {
         ensures limit { self.new.limit ≡ self.old.limit }
         ensures keeps { (found : List JumpOf) → Keeps found self.old → Keeps (jump ∷ found) self.new }
     {
-        let at = self.place(jump);
-        if at == self.limit {
-            self.pass(jump);
-            return;
+        match self.find(jump) {
+            Ok(_) => {}
+            Err(at) if at == self.limit => self.pass(jump),
+            Err(at) => self.insert(at, jump),
         }
-        if at < self.len {
-            let row = self.rows[at];
-            if row == jump {
-                return;
-            }
-        }
-        self.insert(at, jump);
     }
 
     /// How many jumps there are, or the fault where there are more than have rows.

@@ -6,5 +6,5 @@ pub mod flat;
 pub mod jump;
 pub mod kept;
 pub mod lookup;
-pub mod ordered;
+pub mod unfolded;
 mod walk;

@@ -1,11 +1,10 @@
 -- Where a set of items leads, as the index tells it.
-use Rattle.std.proofs.Common.{◌≡◌, ℕ, suc, ◌<◌, ◌≤◌, ◌↔◌, List, [], ◌∷◌, ◌++◌, length, get_or, take, drop, Some, None, sym, refl, ap, ◌∙◌, subst, ⊎_elim, append_assoc, arith}
+use Rattle.std.proofs.Common.{◌≡◌, ℕ, suc, ◌<◌, ◌≤◌, ◌↔◌, List, [], ◌∷◌, ◌++◌, get_or, Some, None, Option, sym, refl, ap, ◌∙◌, subst, ⊎_elim, arith}
 use mathlib.Core.Option.{none, some}
 use mathlib.Core.List.{Memᴰ}
-use Rattle.std.specs.List.{flat_map}
-use Rattle.std.proofs.lemmas.List.{take_at, drop_at}
-use Rattle.book.specs.Grammar.{Rule, rule, Grammar, symbols}
-use Rattle.book.specs.Tables.{rule_entries, Holds}
+use Rattle.book.specs.Grammar.{Grammar, symbols}
+use Rattle.book.specs.Tables.{Holds}
+use Rattle.book.proofs.Places.{rules_read}
 use Rattle.table.specs.Lists.{StandsAt}
 use Rattle.table.specs.Sets.{Row, In, members}
 use Rattle.table.specs.declared.sets.NumberSet.{NumberSet}
@@ -21,22 +20,11 @@ use Rattle.theory.proofs.Items.{dotted_below, below_dotted, dotted_next, after_k
 use Rattle.theory.proofs.Closure.{closure_members, goto_carried, goto_none, goto_is, goto_only}
 use Rattle.machine.specs.declared.items.Items.{Items}
 use Rattle.machine.specs.Closing.{ItemsOf, KernelOf}
-use Rattle.machine.specs.Reading.{rules_of, grammar_of, machine_search, item_search, Readied, LeastAfter, CarriedOver}
+use Rattle.machine.specs.Reading.{grammar_of, machine_search, item_search, Readied, LeastAfter, CarriedOver}
 use Rattle.machine.proofs.Indexing.{follower_at}
 use Rattle.machine.proofs.Taking.{closed_below}
 
 -- a table's grammar is read off it
-
-rules_read : (rs : List Rule) (rest : List ℕ) → rules_of (length rs) (flat_map rule_entries rs ++ rest) ≡ rs
-rules_read [] rest = refl
-rules_read (r ∷ rs) rest =
-    let more : List ℕ = flat_map rule_entries rs ++ rest in
-    let e : flat_map rule_entries (r ∷ rs) ++ rest ≡ r.left ∷ (length r.right ∷ (r.right ++ (flat_map rule_entries rs ++ rest))) = append_assoc (rule_entries r) (flat_map rule_entries rs) rest in
-    let front : take (length r.right) (r.right ++ (flat_map rule_entries rs ++ rest)) ≡ r.right = take_at r.right (flat_map rule_entries rs ++ rest) (length r.right) refl in
-    let back : drop (length r.right) (r.right ++ (flat_map rule_entries rs ++ rest)) ≡ flat_map rule_entries rs ++ rest = drop_at r.right (flat_map rule_entries rs ++ rest) (length r.right) refl in
-    ap (rules_of (suc (length rs))) e
-    ∙ ap (λ l. rule r.left l ∷ rules_of (length rs) (drop (length r.right) (r.right ++ (flat_map rule_entries rs ++ rest)))) front
-    ∙ ap (λ l. r ∷ rules_of (length rs) l) back ∙ ap (λ l. r ∷ l) (rules_read rs rest)
 
 pub grammar_read : {t : List ℕ} {g : Grammar} → Holds t g → grammar_of t ≡ g
 grammar_read {t} {g} h =
@@ -74,40 +62,33 @@ module _ (g : Grammar) (items : Items) (of : ItemsOf g items) where
         let h = has_after k x (in-items k i) e s in
         record { from = k; member = in_members set row k i; left = h.left; before = h.before; after = h.after; item = h.item; number = refl }
 
-    no_step : (from r x : ℕ) → LeastAfter items.after set from r → from ≤ x → x < r → goto g (members set) x ≡ none
-    no_step from r x least f b =
+    no_step : (from x : ℕ) → from ≤ x → ((k : ℕ) → In set k → from ≤ get_or items.after k 0 → get_or items.after k 0 < 65535 → get_or items.after k 0 ≡ x → ⊥)
+        → goto g (members set) x ≡ none
+    no_step from x f off =
         goto_none g (members set) x (λ j c.
         let e = after_symbol c.from c.left x c.before c.after c.item in
-        let m = least.least c.from (members_in set c.from c.member) (omega arith) in omega arith)
+        let s = symbol_small c.from c.left x c.before c.after c.item in
+        off c.from (members_in set c.from c.member) (omega arith) (omega arith) e)
 
-    pub next_none : (from r : ℕ) → LeastAfter items.after set from r → r ≡ 65535 → (x : ℕ) → from ≤ x → x < symbols g → goto g (members set) x ≡ none
-    next_none from r least e x f b =
-        let w = of.fit.words.1 in let n = of.fit.names.1 in
-        no_step from r x least f (omega arith)
+    pub next_none : (from : ℕ) → LeastAfter items.after set from None → (x : ℕ) → from ≤ x → x < symbols g → goto g (members set) x ≡ none
+    next_none from least x f b = no_step from x f (λ k i l s e. least k i l s)
 
     -- what is known where there is a least symbol
     pub record Next (from r : ℕ) : Type 0 where
-      pub least : from ≤ r
-      pub small : r < 65535
       pub rests : (x : ℕ) → from ≤ x → x < r → goto g (members set) x ≡ none
       pub below : r < symbols g
       pub to : List ℕ
       pub goes : goto g (members set) r ≡ some to
 
-    pub next_some : (from r : ℕ) → LeastAfter items.after set from r → (r ≡ 65535 → ⊥) → Next from r
-    next_some from r least ne =
-        ⊎_elim (λ e. absurd (ne e))
-        (λ (k, i, e, f, s).
+    pub next_some : (from r : ℕ) → LeastAfter items.after set from (Some r) → Next from r
+    next_some from r (f, s, (k, i, e), least) =
         let h = has_after k r (in-items k i) e s in
         record {
-          least = f;
-          small = s;
-          rests = λ x a b. no_step from r x least a b;
+          rests = λ x a b. no_step from x a (λ j m l t q. let o = least j m l in omega arith);
           below = (symbol_small k h.left r h.before h.after h.item).0;
           to = _;
           goes = goto_carried g (members set) r (carried_item k r i e s);
-        })
-        least.some_item
+        }
 
     -- the carried items are the kernel of where the set leads
     module _ (x : ℕ) (r : List ℕ) (r-row : Row r) (c : CarriedOver items.after set x r) (to : List ℕ) (goes : goto g (members set) x ≡ some to) where
@@ -162,18 +143,15 @@ module _ (t : List ℕ) (items : Items) (es : List (NumberSet ItemNo)) (k : ℕ)
   read : grammar_of t ≡ q.grammar
   read = grammar_read q.holds
 
-  pub answers_none : (from r : ℕ) → LeastAfter items.after e.words from r → r ≡ 65535 → LeastMove (item_search t) (members e.words) from None
+  pub answers : (from : ℕ) (r : Option ℕ) → LeastAfter items.after e.words from r → LeastMove (item_search t) (members e.words) from r
   unfolding machine_search
-  answers_none from r least h =
+  answers from None least =
       subst (λ (z : Grammar). (x : ℕ) → from ≤ x → x < symbols z → goto z (members e.words) x ≡ none) (sym read)
-      (next_none g items q.of e.words e.row (q.each k e at) from r least h)
-
-  pub answers_some : (from r : ℕ) → LeastAfter items.after e.words from r → (r ≡ 65535 → ⊥) → LeastMove (item_search t) (members e.words) from (Some r)
-  unfolding machine_search
-  answers_some from r least h =
-      let n = next_some g items q.of e.words e.row (q.each k e at) from r least h in (
-        n.least,
-        n.small,
+      (next_none g items q.of e.words e.row (q.each k e at) from least)
+  answers from (Some r) least =
+      let n = next_some g items q.of e.words e.row (q.each k e at) from r least in (
+        least.0,
+        least.1,
         subst (λ (z : Grammar). (x : ℕ) → from ≤ x → x < r → goto z (members e.words) x ≡ none) (sym read) n.rests,
         (
           subst (λ (z : Grammar). r < symbols z) (sym read) n.below,

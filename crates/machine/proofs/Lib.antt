@@ -1,3 +1,4 @@
+pub mod Links
 pub mod Indexing
 pub mod IndexWalk
 pub mod Noting
@@ -6,4 +7,5 @@ pub mod Opening
 pub mod Seeding
 pub mod Gotos
 pub mod Initial
+pub mod Least
 pub mod Building

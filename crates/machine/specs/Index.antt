@@ -1,5 +1,5 @@
 -- What the closure looks up: the symbol after each item's dot, and the first items of each name's rules.
-use Rattle.std.specs.Prelude.{◌≡◌, ℕ, ◌+◌, ◌-◌, ◌<◌, ◌≤◌, ◌↔◌, List, [], ◌∷◌, ◌++◌, map, length, take, slice_index, slice_index_or}
+use Rattle.std.specs.Prelude.{◌≡◌, ℕ, zero, suc, ◌+◌, ◌-◌, ◌<◌, ◌↔◌, List, [], ◌∷◌, ◌++◌, map, take, Some, None, Option, slice_index}
 use Rattle.std.proofs.Math.Option.{some}
 use mathlib.Core.List.{Memᴰ}
 use Rattle.std.proofs.Math.ListN.{get_elem?}
@@ -16,6 +16,30 @@ follower i = elim i.after [ [] ↦ 65535 | x ∷ xs ↦ x ]
 pub data Chain (next : List ℕ) : ℕ → List ℕ → Type 0 where
   end : Chain next 0 []
   link : {k : ℕ} {ks : List ℕ} → 0 < k → slice_index next k < k → Chain next (slice_index next k) ks → Chain next k (k ∷ ks)
+
+-- each number leads to a smaller one
+abbrev pub Falls : List ℕ → Type 0
+Falls next = (k : ℕ) → 0 < k → slice_index next k < k
+
+-- the numbers that following `next` from k passes, at most n of them
+abbrev pub passed : ℕ → List ℕ → ℕ → List ℕ
+passed zero next k = []
+passed (suc n) next zero = []
+passed (suc n) next (suc k) = suc k ∷ passed n next (slice_index next (suc k))
+
+-- the numbers of the chain from k; where it falls, k of them are all
+unfoldable pub links : List ℕ → ℕ → List ℕ
+links next k = passed k next k
+
+-- the symbol after the dot of item k, or none where 65535 stands for it
+abbrev pub SymbolAfter : List ℕ → ℕ → Option ℕ → Type 0
+SymbolAfter after k None = slice_index after k ≡ 65535
+SymbolAfter after k (Some x) = (slice_index after k ≡ x) × (x < 65535)
+
+-- the name after the dot of item k by its index, where the names begin at `words`; or none where a word stands there, or nothing
+abbrev pub NameAfter : ℕ → List ℕ → ℕ → Option ℕ → Type 0
+NameAfter words after k None = (n : ℕ) → n < 1024 → slice_index after k ≡ words + n → slice_index after k < 65535 → ⊥
+NameAfter words after k (Some n) = (slice_index after k ≡ words + n) × (n < 1024) × (slice_index after k < 65535)
 
 -- a chain from k passes just the numbers that P names
 pub record Passes (next : List ℕ) (k : ℕ) (P : ℕ → Type 0) : Type 0 where
@@ -45,11 +69,3 @@ FirstOf g c j = (s : List ℕ) × Dotted g j c [] s
 pub record Indexed (g : Grammar) (after head next : List ℕ) : Type 0 where
   pub followers : take (item_count g) after ≡ map follower (items g)
   pub opens : (c : ℕ) → Name g c → Passes next (slice_index head (c - g.words)) (FirstOf g c)
-
--- a rule stands in the table at `at`, and its items fit from number `first` on
-pub record RuleFits (t : List ℕ) (at words first : ℕ) : Type 0 where
-  pub inside : at + (2 + slice_index t (at + 1)) ≤ length t
-  pub small : at ≤ 8192
-  pub named : words ≤ slice_index t at
-  pub known : slice_index_or t at 0 - words < 1024
-  pub room : first + (slice_index t (at + 1) + 1) ≤ 4096

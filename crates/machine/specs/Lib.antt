@@ -1,4 +1,5 @@
 pub mod Index
+pub mod Names
 pub mod Closing
 pub mod Reading
 pub mod Machines

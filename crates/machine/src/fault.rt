@@ -7,7 +7,7 @@ use book::{BookFault, Refusal};
 use finding::moves::Stop;
 
 /// Why there is no machine, with the place.
-#[derive(Clone, Copy)]
+#[derive(Clone, Copy, PartialEq, Eq, Debug)]
 pub enum MachineFault {
     /// the table holds no grammar
     Book(BookFault),
@@ -30,20 +30,19 @@ impl From<Stop> for MachineFault {
 
     fn from(stop: Stop) -> MachineFault {
         match stop {
-            Stop::Room(n) => MachineFault::StateLimit(n),
-            Stop::Entry(n) => MachineFault::StateLimit(n),
+            Stop::Room(n) | Stop::Entry(n) => MachineFault::StateLimit(n),
             Stop::Arrow(_, n) => MachineFault::MoveLimit(n),
         }
     }
 }
 
-impl MachineFault {
-    /// The number, layer and place of the fault.
-    pub fn refusal(self) -> Refusal
-        ensures { result ≡ refusal_of self }
-    {
-        match self {
-            MachineFault::Book(f) => f.refusal(),
+/// The number, layer and place of the fault.
+impl From<MachineFault> for Refusal {
+    ghost from_gives = { λ f r. r ≡ refusal_of f };
+
+    fn from(fault: MachineFault) -> Refusal {
+        match fault {
+            MachineFault::Book(f) => f.into(),
             MachineFault::StateLimit(n) => Refusal {
                 number: 10,
                 layer: 2,

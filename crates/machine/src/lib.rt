@@ -5,4 +5,5 @@ mod closure;
 pub mod fault;
 pub mod items;
 pub mod machine;
+mod names;
 mod space;

@@ -13,7 +13,7 @@ use table::numbers::{ItemNo, StateNo};
 use table::sets::ItemSet;
 
 /// How many states and moves a machine has, and its final state.
-#[derive(Clone, Copy)]
+#[derive(Clone, Copy, PartialEq, Eq, Debug)]
 pub struct MachineSummary {
     pub states: usize,
     pub moves: usize,
@@ -31,12 +31,8 @@ fn find_final(states: &[ItemSet]) -> Option<StateNo>
     requires { length states.now ≤ 1024 }
     ensures { FoundFinal states.now result }
 {
-    for (i, state) in states.iter().enumerate() {
-        if state.has(ItemNo(1)) {
-            return Some(StateNo(i as u16));
-        }
-    }
-    None
+    let i = states.iter().position(|state| state.has(ItemNo(1)))?;
+    Some(StateNo(i as u16))
 }
 
 /// Writes the characteristic machine of the grammar that a table holds into the lent tables.

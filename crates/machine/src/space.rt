@@ -3,26 +3,20 @@ ghost use Rattle.std.specs.Prelude.{◌≡◌, ℕ, suc, ◌<◌, ◌≤◌, Lis
 ghost use Rattle.table.specs.Sets.{In, members};
 ghost use Rattle.machine.specs.Reading.{item_search, Readied, LeastAfter, CarriedOver};
 
-use super::items::{Items, NO_SYMBOL};
+use super::items::Items;
 use finding::space::Space;
-use table::numbers::ItemNo;
+use table::numbers::{ItemNo, Number};
 use table::sets::ItemSet;
 
 impl Items {
     /// The least symbol that is `from` or more and stands after a dot of the set.
-    fn least_after(&self, set: &ItemSet, from: u16) -> u16
+    fn least_after(&self, set: &ItemSet, from: u16) -> Option<u16>
         ensures { LeastAfter self.now.after set.now.words from result }
     {
-        let mut least = NO_SYMBOL;
-        let mut k = 0;
-        while let Some(item) = set.next_member(k) {
-            let symbol = self.after[item.0 as usize];
-            if symbol >= from && symbol < least {
-                least = symbol;
-            }
-            k = item.0 + 1;
-        }
-        least
+        set.iter()
+            .filter_map(|item| self.symbol_after(item))
+            .filter(|symbol| *symbol >= from)
+            .min()
     }
 
     /// The items with this symbol after their dots, each with the dot carried over it.
@@ -30,12 +24,10 @@ impl Items {
         ensures { CarriedOver self.now.after set.now.words symbol result.words }
     {
         let mut carried = ItemSet::empty();
-        let mut k = 0;
-        while let Some(item) = set.next_member(k) {
-            if self.after[item.0 as usize] == symbol {
+        for item in set.iter() {
+            if self.after[item.index()] == symbol {
                 carried.insert(ItemNo(item.0 + 1));
             }
-            k = item.0 + 1;
         }
         carried
     }
@@ -64,12 +56,7 @@ impl Space for ItemSpace<'_> {
     ghost ready = { λ s es. Readied s.table.now s.items es };
 
     fn next_symbol(&self, e: ItemSet, from: u16) -> Option<u16> {
-        let symbol = self.items.least_after(&e, from);
-        if symbol == NO_SYMBOL {
-            None
-        } else {
-            Some(symbol)
-        }
+        self.items.least_after(&e, from)
     }
 
     fn reach(&mut self, e: ItemSet, x: u16) -> Option<ItemSet> {

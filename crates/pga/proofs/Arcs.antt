@@ -1,52 +1,42 @@
 -- The moves on words, one move after the other, and the bytes of jumps.
-use Rattle.std.proofs.Common.{◌≡◌, ℕ, ◌+◌, ◌*◌, ◌<◌, ◌≤◌, Bool, true, false, ltb, List, [], ◌∷◌, ◌++◌, length, get_or, take, sym, refl, ap, ◌∙◌, ⊎_elim, arith}
-use Rattle.std.specs.List.{flat_map}
-use Rattle.std.proofs.lemmas.List.{length-map, map_more}
-use Rattle.std.proofs.lemmas.Bool.{lt-ltb, le-ltb, cases_Bool}
+use Rattle.std.proofs.Common.{◌≡◌, ℕ, ◌*◌, ◌≤◌, Bool, nat_lt, cond, List, [], ◌∷◌, map, length, sym, refl, ap, ◌∙◌, subst, ⊎_elim, arith}
+use Rattle.std.specs.List.{filter, flat_map}
+use Rattle.std.proofs.lemmas.List.{length-map}
+use Rattle.std.proofs.lemmas.Bool.{cases_Bool}
 use Rattle.book.specs.Files.{bytes_of}
 use Rattle.book.proofs.Numbers.{length_bytes}
 use Rattle.table.specs.declared.numbers.NodeNo.{NodeNo}
 use Rattle.finding.specs.declared.moves.Move.{Move}
-use Rattle.theory.specs.Lists.{keep}
+use Rattle.finding.specs.Finding.{arrow}
 use Rattle.theory.specs.Flattening.{word_moves}
 use Rattle.theory.proofs.Lists.{keep_take, keep_leave, keep_length}
 use Rattle.flattening.specs.declared.jump.Jump.{Jump}
 use Rattle.flattening.specs.Walks.{plain, arrows}
+use Rattle.fields.specs.declared.output.Output.{Output}
+use Rattle.fields.specs.Putting.{Puts, PutsArcs}
+use Rattle.fields.proofs.Arcs.{arc_bytes}
 use Rattle.pga.specs.Files.{jump_numbers}
 
-module _ {A : Type 0} (test : A → Bool) (x : A) where
-  keep_push : (xs : List A) → test x ≡ true → keep test (xs ++ (x ∷ [])) ≡ keep test xs ++ (x ∷ [])
-  keep_push [] e = keep_take test x [] e
-  keep_push (y ∷ xs) e =
-      let r = keep_push xs e in
-      ⊎_elim (λ t. keep_take test y (xs ++ (x ∷ [])) t ∙ ap (λ l. y ∷ l) r ∙ ap (λ l. l ++ (x ∷ [])) (sym (keep_take test y xs t)))
-      (λ t. keep_leave test y (xs ++ (x ∷ [])) t ∙ r ∙ ap (λ l. l ++ (x ∷ [])) (sym (keep_leave test y xs t)))
-      (cases_Bool (test y))
+-- the wanted moves are those on words
+words_kept : (words : ℕ) (ms : List (Move NodeNo)) → map (arrow (λ n. n.0)) (filter (λ m. nat_lt m.symbol words) ms) ≡ word_moves words (arrows ms)
+words_kept words [] = refl
+words_kept words (m ∷ ms) =
+    ⊎_elim
+    (λ t. (λ i. map (arrow (λ n. n.0)) (cond (t i) (m ∷ filter (λ m. nat_lt m.symbol words) ms) (filter (λ m. nat_lt m.symbol words) ms)))
+    ∙ ap (λ l. plain m ∷ l) (words_kept words ms) ∙ sym (keep_take (λ a. nat_lt a.1 words) (plain m) (arrows ms) t))
+    (λ t. (λ i. map (arrow (λ n. n.0)) (cond (t i) (m ∷ filter (λ m. nat_lt m.symbol words) ms) (filter (λ m. nat_lt m.symbol words) ms)))
+    ∙ words_kept words ms ∙ sym (keep_leave (λ a. nat_lt a.1 words) (plain m) (arrows ms) t))
+    (cases_Bool (nat_lt m.symbol words))
 
-  keep_pass : (xs : List A) → test x ≡ false → keep test (xs ++ (x ∷ [])) ≡ keep test xs
-  keep_pass [] e = keep_leave test x [] e
-  keep_pass (y ∷ xs) e =
-      let r = keep_pass xs e in
-      ⊎_elim (λ t. keep_take test y (xs ++ (x ∷ [])) t ∙ ap (λ l. y ∷ l) r ∙ sym (keep_take test y xs t))
-      (λ t. keep_leave test y (xs ++ (x ∷ [])) t ∙ r ∙ sym (keep_leave test y xs t))
-      (cases_Bool (test y))
-
-module _ (words : ℕ) (moves : List (Move NodeNo)) (i : ℕ) (d : Move NodeNo) (below : i < length moves) where
-  -- a move on a word is one arc more
-  pub arcs_more : (get_or moves i d).symbol < words
-      → word_moves words (arrows (take (i + 1) moves)) ≡ word_moves words (arrows (take i moves)) ++ (plain (get_or moves i d) ∷ [])
-  arcs_more h =
-      ap (word_moves words) (map_more (plain) moves i d below)
-      ∙ keep_push (λ a. ltb a.1 words) (plain (get_or moves i d)) (arrows (take i moves)) (lt-ltb (get_or moves i d).symbol words h)
-
-  -- a move on a name is none
-  pub arcs_pass : words ≤ (get_or moves i d).symbol → word_moves words (arrows (take (i + 1) moves)) ≡ word_moves words (arrows (take i moves))
-  arcs_pass h =
-      ap (word_moves words) (map_more (plain) moves i d below)
-      ∙ keep_pass (λ a. ltb a.1 words) (plain (get_or moves i d)) (arrows (take i moves)) (le-ltb (get_or moves i d).symbol words h)
+-- they are put as arcs
+pub puts_words : (words : ℕ) (ms : List (Move NodeNo)) (tells : Move NodeNo → Bool → Type 0) (o p : Output)
+    → ((m : Move NodeNo) (r : Bool) → tells m r → r ≡ nat_lt m.symbol words) → PutsArcs (λ n. n.0) tells ms o p
+    → Puts o (arc_bytes (word_moves words (arrows ms))) p
+puts_words words ms tells o p told x =
+    subst (λ l. Puts o (arc_bytes l) p) (words_kept words ms) (x (λ m. nat_lt m.symbol words) told)
 
 pub arcs_few : (words : ℕ) (moves : List (Move NodeNo)) → length (word_moves words (arrows moves)) ≤ length moves
-arcs_few words moves = omega (arith, keep_length (λ a. ltb a.1 words) (arrows moves), length-map moves (plain))
+arcs_few words moves = omega (arith, keep_length (λ a. nat_lt a.1 words) (arrows moves), length-map moves plain)
 
 -- a jump to stand in where a table is too short; it is never used
 abbrev pub no_jump : Jump

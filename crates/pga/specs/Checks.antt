@@ -1,16 +1,16 @@
 -- What the check of a file answers.
 use Rattle.std.specs.Prelude.{◌≡◌, ℕ, List, length, Ok, Err, Result}
 use Rattle.std.specs.List.{AllByRecursion}
-use Rattle.book.specs.declared.fault.Refusal.{Refusal}
 use Rattle.theory.specs.Flattening.{Acceptor}
 use Rattle.fields.specs.declared.fault.AcceptorFault.{AcceptorFault}
 use Rattle.fields.specs.Reading.{number_at}
 use Rattle.fields.specs.Refusals.{refusal}
 use Rattle.fields.specs.Flaws.{Passes, First}
+use Rattle.fields.specs.Files.{Checked as CheckedFile, OnlyChecked as OnlyFile, WholeJudged as JudgedWhole}
 use Rattle.pga.specs.declared.check.Header.{Header}
-use Rattle.pga.specs.Files.{IsFile}
+use Rattle.pga.specs.Files.{file_of, Fit}
 use Rattle.pga.specs.Reading.{decoded}
-use Rattle.pga.specs.Flaws.{header_checks, file_checks, FileFault}
+use Rattle.pga.specs.Flaws.{header_checks, file_checks}
 
 -- the header's checks pass, and these are its numbers
 pub record Headed (bytes : List ℕ) (h : Header) : Type 0 where
@@ -27,8 +27,7 @@ HeaderJudged bytes (Err f) = First bytes (header_checks bytes) (refusal f)
 
 -- the same of all checks of a file
 abbrev pub WholeJudged : List ℕ → Result Header AcceptorFault → Type 0
-WholeJudged bytes (Ok h) = AllByRecursion (Passes bytes) (file_checks bytes) × Headed bytes h
-WholeJudged bytes (Err f) = FileFault bytes (refusal f)
+WholeJudged bytes r = JudgedWhole Headed file_checks bytes r
 
 -- the numbers in front of an acceptor's arcs
 abbrev pub header : Acceptor → Header
@@ -36,10 +35,8 @@ header a = record { words = a.words; nodes = a.nodes; final_node = a.final; arcs
 
 -- the bytes are the file of the acceptor that is read off them, with these numbers, or this is their first fault
 abbrev pub Checked : List ℕ → Result Header AcceptorFault → Type 0
-Checked bytes (Ok h) = IsFile bytes (decoded bytes) × (h ≡ header (decoded bytes))
-Checked bytes (Err f) = FileFault bytes (refusal f)
+Checked bytes r = CheckedFile Fit file_of decoded header file_checks bytes r
 
 -- no other answer would be right: the acceptor is the only one, and the fault the only first one
 abbrev pub OnlyChecked : List ℕ → Result Header AcceptorFault → Type 0
-OnlyChecked bytes (Ok h) = ((a : Acceptor) → IsFile bytes a → a ≡ decoded bytes) × ((f : Refusal) → FileFault bytes f → ⊥)
-OnlyChecked bytes (Err f) = ((a : Acceptor) → IsFile bytes a → ⊥) × ((f' : Refusal) → FileFault bytes f' → f' ≡ refusal f)
+OnlyChecked bytes r = OnlyFile Fit file_of decoded header file_checks bytes r

@@ -2,13 +2,14 @@
 --
 -- The file is the three bytes PGA and then numbers, each in two bytes, the low one first: the version 1, how many words
 -- and nodes there are, the final node, how many arcs and jumps there are, each arc (from, word, to), each jump (from, to).
-use Rattle.std.specs.Prelude.{◌≡◌, ℕ, ◌<◌, ◌≤◌, List, [], ◌∷◌, ◌++◌, length, codes}
+use Rattle.std.specs.Prelude.{ℕ, ◌<◌, ◌≤◌, List, [], ◌∷◌, ◌++◌, length, codes}
 use Rattle.std.specs.List.{flat_map, AllByRecursion}
 use Rattle.book.specs.Files.{bytes_of}
 use Rattle.table.specs.Lists.{InOrder}
 use Rattle.finding.specs.Numbered.{Arrow}
 use Rattle.finding.specs.Laws.{Rises}
 use Rattle.fields.specs.Arcs.{arc_numbers, ArcWithin}
+use Rattle.fields.specs.Files.{FileOf}
 use Rattle.theory.specs.Flattening.{Acceptor, JumpLess}
 
 abbrev pub jump_numbers : ℕ × ℕ → List ℕ
@@ -45,6 +46,5 @@ pub record Fit (a : Acceptor) : Type 0 where
   pub jumps_rise : InOrder JumpLess a.jumps
 
 -- the bytes are the file of an acceptor that fits
-pub record IsFile (bytes : List ℕ) (a : Acceptor) : Type 0 where
-  pub fit : Fit a
-  pub is : bytes ≡ file_of a
+abbrev pub IsFile : List ℕ → Acceptor → Type 0
+IsFile bytes a = FileOf Fit file_of bytes a

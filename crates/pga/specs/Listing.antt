@@ -1,7 +1,7 @@
 -- The text of an acceptor, and what list answers and leaves.
 --
 -- The counts of a compile stand on the first line, then each arc and each jump on a line of its own; numbers in decimal, parted by one blank.
-use Rattle.std.specs.Prelude.{◌≡◌, ℕ, ◌<◌, List, [], ◌∷◌, ◌++◌, length, drop, Ok, Err, decimal, Result}
+use Rattle.std.specs.Prelude.{◌≡◌, ℕ, zero, suc, ◌<◌, List, [], ◌∷◌, ◌++◌, length, drop, Ok, Err, decimal, Result}
 use Rattle.std.specs.List.{flat_map}
 use Rattle.book.specs.declared.fault.Refusal.{Refusal}
 use Rattle.finding.specs.Numbered.{Arrow}
@@ -17,6 +17,11 @@ use Rattle.pga.specs.Flaws.{FileFault}
 -- a blank and a number
 abbrev pub next_number : ℕ → List ℕ
 next_number n = 32 ∷ decimal n
+
+-- the number of a line that stands after so many others
+abbrev pub part : ℕ → ℕ → List ℕ
+part zero n = decimal n
+part (suc k) n = next_number n
 
 -- a line of numbers, ended by byte 10
 abbrev pub line : List ℕ → List ℕ

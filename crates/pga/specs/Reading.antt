@@ -12,6 +12,14 @@ jump_in bytes at = (number_at bytes at, number_at bytes (at + 2))
 abbrev pub jumps_from : List ℕ → ℕ → ℕ → List (ℕ × ℕ)
 jumps_from bytes start n = map (λ k. jump_in bytes (start + 4 * k)) (range_with_len 0 n)
 
+-- the n numbers from `at` on
+abbrev pub row_numbers : List ℕ → ℕ → ℕ → List ℕ
+row_numbers bytes at n = map (λ i. number_at bytes (at + 2 * i)) (range_with_len 0 n)
+
+-- the first rows from `start` on, of so many numbers each
+abbrev pub rows_from : List ℕ → ℕ → ℕ → ℕ → List (List ℕ)
+rows_from bytes start size count = map (λ k. row_numbers bytes (start + 2 * size * k) size) (range_with_len 0 count)
+
 -- the acceptor of a file, read off its bytes: arcs stand after the header, jumps after the arcs
 abbrev pub decoded : List ℕ → Acceptor
 decoded bytes =

@@ -1,5 +1,5 @@
 -- The acceptor that write takes, and what write answers and leaves.
-use Rattle.std.specs.Prelude.{◌≡◌, ℕ, ◌<◌, List, ◌++◌, map, length, take, drop, Ok, Err, Result}
+use Rattle.std.specs.Prelude.{ℕ, List, map, Result}
 use Rattle.table.specs.declared.numbers.NodeNo.{NodeNo}
 use Rattle.finding.specs.declared.moves.Move.{Move}
 use Rattle.theory.specs.Flattening.{Acceptor, file_length, word_moves}
@@ -7,7 +7,8 @@ use Rattle.flattening.specs.declared.jump.Jump.{Jump}
 use Rattle.flattening.specs.Orders.{pair}
 use Rattle.flattening.specs.Walks.{arrows}
 use Rattle.fields.specs.declared.fault.OutputShort.{OutputShort}
-use Rattle.pga.specs.Files.{Fit, file_of, IsFile}
+use Rattle.fields.specs.Files.{FileWritten as WrittenFile, Written as WrittenBy}
+use Rattle.pga.specs.Files.{Fit, file_of}
 
 -- the jumps of a table as plain numbers
 abbrev pub pairs : List Jump → List (ℕ × ℕ)
@@ -19,12 +20,9 @@ acceptor words nodes final moves jumps =
     record { words = words; nodes = nodes; final = final.0; arcs = word_moves words (arrows moves); jumps = pairs jumps }
 
 -- the output begins with the n bytes of the file of a, and all after them is as it was
-pub record FileWritten (a : Acceptor) (out out' : List ℕ) (n : ℕ) : Type 0 where
-  pub length_used : n ≡ file_length a
-  pub is : out' ≡ file_of a ++ drop n out
-  pub is_file : Fit a → IsFile (take n out') a
+abbrev pub FileWritten : Acceptor → List ℕ → List ℕ → ℕ → Type 0
+FileWritten a out out' n = WrittenFile Fit file_of file_length a out out' n
 
 -- what write answers and leaves
 abbrev pub Written : Acceptor → List ℕ → Result ℕ OutputShort → List ℕ → Type 0
-Written a out (Ok n) out' = FileWritten a out out' n
-Written a out (Err f) out' = (f.needed ≡ file_length a) × (length out < file_length a) × (out' ≡ out)
+Written a out r out' = WrittenBy Fit file_of file_length a out r out'

@@ -12,16 +12,17 @@ pub enum ListFault {
     /// it is no acceptor's file
     File(AcceptorFault),
     /// the output is too short for this many bytes
+    // The case holds the bytes alone: the layer of a short output depends on the call, so the struct has no refusal.
     OutputShort(usize),
 }
 
-impl ListFault {
-    /// The number, layer and place of the fault.
-    pub fn refusal(self) -> Refusal
-        ensures { result ≡ list_refusal self }
-    {
-        match self {
-            ListFault::File(fault) => fault.refusal(),
+/// The number, layer and place of the fault.
+impl From<ListFault> for Refusal {
+    ghost from_gives = { λ f r. r ≡ list_refusal f };
+
+    fn from(fault: ListFault) -> Refusal {
+        match fault {
+            ListFault::File(fault) => fault.into(),
             ListFault::OutputShort(needed) => Refusal {
                 number: 16,
                 layer: 5,

@@ -3,6 +3,6 @@
 
 pub mod check;
 pub mod fault;
-mod format;
+pub mod format;
 pub mod listing;
 pub mod writer;

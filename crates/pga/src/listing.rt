@@ -1,18 +1,18 @@
 //! The text of an acceptor: counts, arcs and jumps, a line each.
-ghost use Rattle.std.specs.Prelude.{◌≡◌, ◌+◌, ◌*◌, ◌^◌, ◌<◌, ◌≤◌, [], ◌∷◌, length, Ok, decimal};
+ghost use Rattle.std.specs.Prelude.{◌≡◌, ◌+◌, ◌*◌, ◌^◌, ◌<◌, ◌≤◌, length, Ok};
 ghost use Rattle.std.specs.List.{flat_map};
-ghost use Rattle.fields.specs.Reading.{arcs_from};
-ghost use Rattle.fields.specs.Putting.{Put};
-ghost use Rattle.pga.specs.Reading.{jumps_from, decoded};
+ghost use Rattle.fields.specs.Putting.{Puts};
+ghost use Rattle.pga.specs.Reading.{row_numbers, rows_from, decoded};
 ghost use Rattle.pga.specs.Checks.{Checked};
-ghost use Rattle.pga.specs.Listing.{line, arc_line, jump_line, lines, Listed};
+ghost use Rattle.pga.specs.Listing.{part, line, lines, Listed};
 
 use super::check::{Header, check_file};
 use super::fault::ListFault;
-use super::format::{ARCS_AT, JUMP_SIZE};
+use super::format::ARCS_AT;
 use fields::check::number_at;
 use fields::format::ARC_SIZE;
-use fields::output::put_byte;
+use fields::output::Output;
+use itoa::Buffer;
 
 /// What a compile counts: states, moves, nodes, unfolded moves, arcs and jumps.
 #[derive(Clone, Copy, PartialEq, Eq, Debug)]
@@ -25,97 +25,72 @@ pub struct Counts {
     pub jumps: usize,
 }
 
-/// Puts a number in decimal; the place after it.
-fn put_decimal(out: &mut [u8], at: usize, number: usize) -> usize
-    requires { at < 2 ^ 32 }
-    ensures put { Put out.old at (decimal number) out.new result }
-    ensures short { result ≤ at + 20 }
+/// Puts a number of a line, parted by a blank from those before it.
+fn put_next(out: &mut Output, before: usize, number: usize)
+    requires { out.old.at < 2 ^ 32 }
+    ensures { Puts out.old (part before number) out.new }
 {
-    if number < 10 {
-        return put_byte(out, at, 48 + number as u8);
+    if before > 0 {
+        out.byte(b' ');
     }
-    let end = put_decimal(out, at, number / 10);
-    put_byte(out, end, 48 + (number % 10) as u8)
+    // Not by `write!`: its contract leaves open whether a write fails, and the text is put whole.
+    out.text(Buffer::new().format(number).as_bytes());
 }
 
-/// Puts a line of numbers; the place after it.
-fn put_line(out: &mut [u8], at: usize, first: usize, rest: &[usize]) -> usize
-    requires { (at < 2 ^ 31) × (length rest.now ≤ 5) }
-    ensures put { Put out.old at (line (first ∷ rest.now)) out.new result }
-    ensures short { result ≤ at + 21 * (1 + length rest.now) }
+/// Puts a line of numbers.
+fn put_line(out: &mut Output, numbers: &[usize])
+    requires { (out.old.at < 2 ^ 31) × (length numbers.now ≤ 6) }
+    ensures puts { Puts out.old (line numbers.now) out.new }
+    ensures short { out.new.at ≤ out.old.at + 128 }
 {
-    let mut end = put_decimal(out, at, first);
-    for number in rest {
-        end = put_byte(out, end, b' ');
-        end = put_decimal(out, end, *number);
+    for (i, number) in numbers.iter().enumerate() {
+        put_next(out, i, *number);
     }
-    put_byte(out, end, b'\n')
+    out.byte(b'\n');
 }
 
-/// Puts the arcs that stand in the file from `start` on, a line each; the place after them.
-fn put_arc_lines(out: &mut [u8], at: usize, file: &[u8], start: usize, count: usize) -> usize
-    requires { (at ≤ 2 ^ 30) × (count ≤ 16384) × (start + 6 * count ≤ length file.now) }
-    ensures put { Put out.old at (flat_map arc_line (arcs_from file.now start count)) out.new result }
-    ensures short { result ≤ at + 63 * count }
+/// The N numbers that stand in the file from `at` on.
+fn row_at<const N: usize>(file: &[u8], at: usize) -> [usize; N]
+    requires { at + 2 * N ≤ length file.now }
+    ensures { result ≡ row_numbers file.now at N }
 {
-    let mut end = at;
+    let mut row = [0; N];
+    for (i, number) in row.iter_mut().enumerate() {
+        *number = number_at(file, at + 2 * i);
+    }
+    row
+}
+
+/// Puts the rows of N numbers that stand in the file from `start` on, a line each.
+fn put_rows<const N: usize>(out: &mut Output, file: &[u8], start: usize, count: usize)
+    requires few { (N ≤ 6) × (count ≤ 16384) × (start + 2 * N * count ≤ length file.now) }
+    requires room { out.old.at ≤ 2 ^ 30 }
+    ensures puts { Puts out.old (flat_map line (rows_from file.now start N count)) out.new }
+    ensures short { out.new.at ≤ out.old.at + 128 * count }
+{
+    // By the number of the row: each number is read where it stands in the file.
     for k in 0..count {
-        let arc = start + ARC_SIZE * k;
-        end = put_line(
-            out,
-            end,
-            number_at(file, arc),
-            &[number_at(file, arc + 2), number_at(file, arc + 4)],
-        );
+        put_line(out, &row_at::<N>(file, start + 2 * N * k));
     }
-    end
 }
 
-/// Puts the jumps that stand in the file from `start` on, a line each; the place after them.
-fn put_jump_lines(out: &mut [u8], at: usize, file: &[u8], start: usize, count: usize) -> usize
-    requires { (at ≤ 2 ^ 30) × (count ≤ 16384) × (start + 4 * count ≤ length file.now) }
-    ensures { Put out.old at (flat_map jump_line (jumps_from file.now start count)) out.new result }
+/// Puts the text of the file's acceptor under these counts.
+fn put_text(out: &mut Output, counts: Counts, file: &[u8], header: Header)
+    requires sound { Checked file.now (Ok header) }
+    requires begun { out.old.at ≡ 0 }
+    ensures { Puts out.old (lines counts (decoded file.now)) out.new }
 {
-    let mut end = at;
-    for k in 0..count {
-        let jump = start + JUMP_SIZE * k;
-        end = put_line(
-            out,
-            end,
-            number_at(file, jump),
-            &[number_at(file, jump + 2)],
-        );
-    }
-    end
-}
-
-/// The counts after that of the states.
-fn after_states(counts: Counts) -> [usize; 5]
-    ensures { result ≡ counts.moves ∷ (counts.nodes ∷ (counts.unfolded ∷ (counts.arcs ∷ (counts.jumps ∷ [])))) }
-{
-    [
+    let numbers = [
+        counts.states,
         counts.moves,
         counts.nodes,
         counts.unfolded,
         counts.arcs,
         counts.jumps,
-    ]
-}
-
-/// Puts the text of the file's acceptor under these counts; the place after it.
-fn put_text(out: &mut [u8], counts: Counts, file: &[u8], header: Header) -> usize
-    requires { Checked file.now (Ok header) }
-    ensures { Put out.old 0 (lines counts (decoded file.now)) out.new result }
-{
-    let arcs_at = put_line(out, 0, counts.states, &after_states(counts));
-    let jumps_at = put_arc_lines(out, arcs_at, file, ARCS_AT, header.arcs);
-    put_jump_lines(
-        out,
-        jumps_at,
-        file,
-        ARCS_AT + ARC_SIZE * header.arcs,
-        header.jumps,
-    )
+    ];
+    put_line(out, &numbers);
+    put_rows::<3>(out, file, ARCS_AT, header.arcs);
+    put_rows::<2>(out, file, ARCS_AT + ARC_SIZE * header.arcs, header.jumps);
 }
 
 /// Writes the text of a file's acceptor under these counts; the length used.
@@ -124,9 +99,12 @@ pub fn list(counts: Counts, file: &[u8], out: &mut [u8]) -> Result<usize, ListFa
 {
     let header = check_file(file)?;
     let mut no_room = [0; 0];
-    let needed = put_text(&mut no_room, counts, file, header);
-    if out.len() < needed {
-        return Err(ListFault::OutputShort(needed));
+    let mut counted = Output::new(&mut no_room);
+    put_text(&mut counted, counts, file, header);
+    if out.len() < counted.place() {
+        return Err(ListFault::OutputShort(counted.place()));
     }
-    Ok(put_text(out, counts, file, header))
+    let mut output = Output::new(out);
+    put_text(&mut output, counts, file, header);
+    Ok(output.place())
 }

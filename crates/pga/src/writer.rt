@@ -2,17 +2,14 @@
 ghost use Rattle.std.specs.Prelude.{◌≡◌, ◌+◌, ◌*◌, ◌^◌, ◌<◌, ◌≤◌, [], ◌∷◌, length};
 ghost use Rattle.std.specs.List.{flat_map};
 ghost use Rattle.book.specs.Files.{bytes_of};
-ghost use Rattle.theory.specs.Flattening.{word_moves};
-ghost use Rattle.flattening.specs.Walks.{arrows};
-ghost use Rattle.fields.specs.Arcs.{arc_numbers};
-ghost use Rattle.fields.specs.Putting.{Put};
+ghost use Rattle.fields.specs.Putting.{Puts};
 ghost use Rattle.pga.specs.Files.{jump_numbers};
 ghost use Rattle.pga.specs.Writing.{pairs, acceptor, Written};
 
 use super::format::{ARCS_AT, JUMP_SIZE, MARK};
 use fields::fault::OutputShort;
 use fields::format::{ARC_SIZE, VERSION};
-use fields::output::put_numbers;
+use fields::output::Output;
 use finding::moves::Move;
 use flattening::flat::count_arcs;
 use flattening::jump::Jump;
@@ -29,31 +26,17 @@ pub struct Parts<'a> {
     pub jumps: &'a [Jump],
 }
 
-/// Puts the moves on words as arcs; the place after them.
-fn put_arcs(out: &mut [u8], at: usize, words: u16, moves: &[Move<NodeNo>]) -> usize
-    requires { (at ≤ 16) × (length moves.now ≤ 16384) }
-    ensures { Put out.old at (flat_map bytes_of (flat_map arc_numbers (word_moves words (arrows moves.now)))) out.new result }
+/// Puts the jumps.
+fn put_jumps(out: &mut Output, jumps: &[Jump])
+    requires { (out.old.at ≤ 2 ^ 32) × (length jumps.now ≤ 16384) }
+    ensures { Puts out.old (flat_map bytes_of (flat_map jump_numbers (pairs jumps.now))) out.new }
 {
-    let mut end = at;
-    for m in moves {
-        if m.symbol < words {
-            end = put_numbers(out, end, &[m.from.0, m.symbol, m.to.0]);
-        }
+    for j in jumps {
+        out.numbers(&[j.from.0, j.to.0]);
     }
-    end
 }
 
-/// Puts the jumps; the place after them.
-fn put_jumps(out: &mut [u8], at: usize, jumps: &[Jump]) -> usize
-    requires { (at ≤ 2 ^ 32) × (length jumps.now ≤ 16384) }
-    ensures { Put out.old at (flat_map bytes_of (flat_map jump_numbers (pairs jumps.now))) out.new result }
-{
-    let mut end = at;
-    for j in jumps {
-        end = put_numbers(out, end, &[j.from.0, j.to.0]);
-    }
-    end
-}
+// The layouts of the two kinds differ after the front, and what both share stands in `fields`.
 
 /// The numbers in front of the arcs.
 fn header_of(parts: Parts, arcs: usize) -> [u16; 6]
@@ -83,9 +66,10 @@ pub fn write(parts: Parts, out: &mut [u8]) -> Result<usize, OutputShort>
     if out.len() < needed {
         return Err(OutputShort { needed });
     }
-    out[0..MARK.len()].copy_from_slice(&MARK);
-    let header = header_of(parts, arcs);
-    let arcs_at = put_numbers(out, MARK.len(), &header);
-    let jumps_at = put_arcs(out, arcs_at, parts.words, parts.moves);
-    Ok(put_jumps(out, jumps_at, parts.jumps))
+    let mut output = Output::new(out);
+    output.text(&MARK);
+    output.numbers(&header_of(parts, arcs));
+    output.arcs(parts.moves, |m| m.symbol < parts.words);
+    put_jumps(&mut output, parts.jumps);
+    Ok(output.place())
 }

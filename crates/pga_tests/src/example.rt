@@ -1,6 +1,7 @@
 //! The example of the tests: the acceptor of S → a S b and S → ε, where a = 0, b = 1 and S = 2.
 use finding::moves::Move;
 use flattening::jump::Jump;
+use pga::check::Header;
 use pga::listing::Counts;
 use table::numbers::NodeNo;
 
@@ -11,6 +12,15 @@ pub const FILE: [u8; 49] = [
     0x00, 0x00, 0x00, 0x02, 0x00, 0x01, 0x00, 0x03, 0x00, 0x04, 0x00, 0x02, 0x00, 0x04, 0x00, 0x03,
     0x00,
 ];
+
+/// What its file begins with.
+pub const HEADER: Header = Header {
+    words: 2,
+    nodes: 5,
+    final_node: 2,
+    arcs: 3,
+    jumps: 4,
+};
 
 /// Its unfolded moves, of which two are on S.
 pub const MOVES: [(u16, u16, u16); 5] = [(0, 0, 1), (0, 2, 2), (1, 0, 1), (1, 2, 3), (3, 1, 4)];
@@ -32,18 +42,18 @@ pub const COUNTS: Counts = Counts {
 pub const TEXT: [u8; 46] = *b"5 5 5 5 3 4\n0 0 1\n1 0 1\n3 1 4\n0 2\n1 3\n4 2\n4 3\n";
 
 /// The move of these numbers.
-pub fn move_of(m: (u16, u16, u16)) -> Move<NodeNo> {
+pub fn move_of((from, symbol, to): (u16, u16, u16)) -> Move<NodeNo> {
     Move {
-        from: NodeNo(m.0),
-        symbol: m.1,
-        to: NodeNo(m.2),
+        from: NodeNo(from),
+        symbol,
+        to: NodeNo(to),
     }
 }
 
 /// The jump of these numbers.
-pub fn jump_of(j: (u16, u16)) -> Jump {
+pub fn jump_of((from, to): (u16, u16)) -> Jump {
     Jump {
-        from: NodeNo(j.0),
-        to: NodeNo(j.1),
+        from: NodeNo(from),
+        to: NodeNo(to),
     }
 }

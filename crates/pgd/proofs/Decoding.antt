@@ -4,13 +4,13 @@ use Rattle.std.specs.List.{flat_map, AllByRecursion}
 use Rattle.std.proofs.lemmas.List.{take-append-drop, drop_all, drop_more, length-map, get_or_append_left, get_or-append-add}
 use Rattle.std.proofs.lemmas.List.FromFn.{length-map-range_with_len}
 use Rattle.std.proofs.ByRecursion.{All-get_or}
+use Rattle.std.proofs.lemmas.List.Concat.{flat_map_single}
 use Rattle.book.specs.Files.{bytes_of}
 use Rattle.book.specs.Reading.{numbers}
 use Rattle.book.proofs.Numbers.{numbers_bytes}
 use Rattle.theory.specs.Subsets.{Determined}
 use Rattle.fields.specs.Arcs.{arc_numbers}
 use Rattle.fields.specs.Reading.{number_at, arc_in}
-use Rattle.fields.proofs.Lists.{joined_single}
 use Rattle.fields.proofs.Arcs.{arc_bytes, same_arcs}
 use Rattle.fields.proofs.Read.{rows_read, two_read, arcs_read}
 use Rattle.pgd.specs.Files.{header_numbers, final_byte, file_of}
@@ -34,7 +34,7 @@ finals_read : (bytes : List ℕ) (start n : ℕ) → start + n ≤ length bytes 
     → drop start bytes ≡ map final_byte (finals_from bytes start n) ++ drop (start + n) bytes
 finals_read bytes start n h flag =
     rows_read bytes (λ b. final_byte b ∷ []) (λ k. final_flag_at bytes (start + k)) start 1 n each
-    ∙ (λ i. joined_single final_byte (finals_from bytes start n) i ++ drop (last i) bytes)
+    ∙ (λ i. flat_map_single final_byte (finals_from bytes start n) i ++ drop (last i) bytes)
   where
     last : start + 1 * n ≡ start + n
     last = omega arith

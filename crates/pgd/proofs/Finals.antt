@@ -4,13 +4,13 @@ use Rattle.std.specs.List.{flat_map}
 use Rattle.std.proofs.lemmas.List.{length-map}
 use Rattle.std.proofs.lemmas.Simd.{map-map}
 use Rattle.std.proofs.lemmas.Bool.{eqb-true, eq-eqb}
+use Rattle.std.proofs.lemmas.List.Concat.{flat_map_single}
 use Rattle.table.specs.declared.numbers.NodeNo.{NodeNo}
 use Rattle.table.specs.declared.sets.NumberSet.{NumberSet}
 use Rattle.table.specs.Sets.{Row, In, members}
 use Rattle.table.proofs.Rows.{members_in, in_members}
 use Rattle.theory.specs.Lists.{any}
 use Rattle.theory.proofs.Lists.{any_mem, mem_any}
-use Rattle.fields.proofs.Lists.{joined_single}
 use Rattle.pgd.specs.Files.{final_byte}
 use Rattle.pgd.specs.Writing.{sets, is_final}
 
@@ -34,11 +34,11 @@ module _ (final : NodeNo) (rows : List (NumberSet NodeNo)) where
   -- the bytes of rows, one by one, are those of their sets
   pub rows_bytes : flat_map (λ e. row_byte final e ∷ []) rows ≡ map final_byte (map (is_final final) (sets rows))
   rows_bytes =
-      joined_single (row_byte final) rows ∙ sym (map-map final_byte (λ e. is_final final (members e.words)) rows)
+      flat_map_single (row_byte final) rows ∙ sym (map-map final_byte (λ e. is_final final (members e.words)) rows)
       ∙ ap (map final_byte) (sym (map-map (is_final final) (λ e. members e.words) rows))
 
   pub length_rows_bytes : length (flat_map (λ e. row_byte final e ∷ []) rows) ≡ length rows
-  length_rows_bytes = ap length (joined_single (row_byte final) rows) ∙ length-map rows (row_byte final)
+  length_rows_bytes = ap length (flat_map_single (row_byte final) rows) ∙ length-map rows (row_byte final)
 
   pub length_finals : length (map (is_final final) (sets rows)) ≡ length rows
   length_finals = length-map (sets rows) (is_final final) ∙ length-map rows (λ e. members e.words)

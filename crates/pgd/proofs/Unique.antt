@@ -1,14 +1,14 @@
 -- Bytes are the file of one determinised acceptor, or have one first fault, and never both.
-use Rattle.std.proofs.Common.{◌≡◌, ℕ, ◌+◌, ◌*◌, ◌<◌, List, Ok, Err, Result, sym, ◌∙◌, subst}
+use Rattle.std.proofs.Common.{◌≡◌, ℕ, ◌+◌, ◌*◌, ◌<◌, List, get_or, Result, Fits, w8, sym, ◌∙◌, subst}
 use Rattle.std.specs.List.{AllByRecursion}
 use Rattle.std.proofs.lemmas.List.FromFn.{length-map-range_with_len}
 use Rattle.theory.specs.Subsets.{Determined}
 use Rattle.fields.specs.declared.fault.AcceptorFault.{AcceptorFault}
 use Rattle.fields.specs.Reading.{number_at, arc_in}
 use Rattle.fields.specs.Flaws.{Passes}
-use Rattle.fields.proofs.Faults.{first_not, first_one}
+use Rattle.fields.proofs.Files.{small_bytes, checked as checked_file, only_checked as only_file}
 use Rattle.pgd.specs.declared.check.Header.{Header}
-use Rattle.pgd.specs.Files.{Fit, IsFile}
+use Rattle.pgd.specs.Files.{file_of, Fit, IsFile}
 use Rattle.pgd.specs.Reading.{decoded}
 use Rattle.pgd.specs.Flaws.{file_checks}
 use Rattle.pgd.specs.Checks.{Headed, WholeJudged, header, Checked, OnlyChecked}
@@ -35,9 +35,13 @@ module _ (bytes : List ℕ) (small : AllByRecursion (λ b. b < 256) bytes) where
       λ i. record { words = k.words i; states = k.states i; arcs = arcs i }
 
   pub checked : (r : Result Header AcceptorFault) → WholeJudged bytes r → Checked bytes r
-  checked (Ok h) (a, k) = (passes_file a, header_is h k)
-  checked (Err f) x = x
+  checked r j = checked_file Fit file_of decoded header file_checks Headed bytes passes_file header_is r j
 
   pub only_checked : (r : Result Header AcceptorFault) → WholeJudged bytes r → OnlyChecked bytes r
-  only_checked (Ok h) (a, k) = (is_decoded, (λ f x. first_not x a))
-  only_checked (Err f) x = ((λ d k. first_not x (file_passes d k)), (λ f' y. first_one y x))
+  only_checked r j = only_file Fit file_of decoded header file_checks Headed bytes passes_file is_decoded file_passes r j
+
+-- what is judged of all checks is the answer, and no other is right
+pub answered : (bytes : List ℕ) → ((i : ℕ) → Fits w8 (get_or bytes i 0)) → (r : Result Header AcceptorFault) → WholeJudged bytes r
+    → record { checked : Checked bytes r; only : OnlyChecked bytes r }
+answered bytes fits r j =
+    let small = small_bytes bytes fits in record { checked = checked bytes small r j; only = only_checked bytes small r j }

@@ -1,20 +1,27 @@
 -- The length of a file, and the parts of one, put one after the other.
-use Rattle.std.proofs.Common.{◌≡◌, ℕ, ◌≤◌, List, map, length, codes, ◌∙◌, subst, arith}
-use Rattle.std.specs.List.{flat_map}
+use Rattle.std.proofs.Common.{◌≡◌, Bool, true, List, [], ◌∷◌, map, length, codes, refl, ap, subst, arith}
+use Rattle.std.specs.List.{filter, flat_map}
 use Rattle.std.proofs.lemmas.List.{length-append, length-map}
 use Rattle.book.specs.Files.{bytes_of}
 use Rattle.table.specs.declared.numbers.StateNo.{StateNo}
 use Rattle.finding.specs.declared.moves.Move.{Move}
 use Rattle.theory.specs.Subsets.{Determined, determined_length}
-use Rattle.fields.specs.Putting.{Put}
+use Rattle.fields.specs.declared.output.Output.{Output}
+use Rattle.fields.specs.Putting.{Puts, PutsArcs}
 use Rattle.fields.proofs.Arcs.{arc_bytes, length_arc_bytes}
-use Rattle.fields.proofs.Putting.{put_parts, put_front}
+use Rattle.fields.proofs.Putting.{puts_then}
 use Rattle.pgd.specs.Files.{header_numbers, final_byte, file_of}
-use Rattle.pgd.specs.Writing.{FileWritten}
+use Rattle.pgd.specs.Writing.{arrows}
 
--- a move to stand in where a table is too short; it is never used
-abbrev pub no_move : Move StateNo
-no_move = record { from = record { 0 = 0 }; symbol = 0; to = record { 0 = 0 } }
+-- every move is wanted
+all_wanted : {A : Type 0} (xs : List A) → filter (λ x. true) xs ≡ xs
+all_wanted [] = refl
+all_wanted (x ∷ xs) = ap (λ l. x ∷ l) (all_wanted xs)
+
+-- they are put as arcs
+pub puts_moves : (ms : List (Move StateNo)) (tells : Move StateNo → Bool → Type 0) (o p : Output) → ((m : Move StateNo) (r : Bool) → tells m r → r ≡ true)
+    → PutsArcs (λ s. s.0) tells ms o p → Puts o (arc_bytes (arrows ms)) p
+puts_moves ms tells o p told x = subst (λ l. Puts o (arc_bytes (arrows l)) p) (all_wanted ms) (x (λ m. true) told)
 
 pub length_file : (d : Determined) → length d.finals ≡ d.states → length (file_of d) ≡ determined_length d
 length_file d e =
@@ -26,16 +33,7 @@ length_file d e =
       e,
     )
 
-module _ (d : Determined) (header out o₁ o₂ o₃ o₄ : List ℕ) (e₂ e₃ e₄ : ℕ) where
-  pub file_put : header ≡ header_numbers d → length o₁ ≡ length out → length o₂ ≡ length out → length o₃ ≡ length out
-      → Put out 0 (codes "PGD") o₁ 3 → Put o₁ 3 (flat_map bytes_of header) o₂ e₂
-      → Put o₂ e₂ (map final_byte d.finals) o₃ e₃ → Put o₃ e₃ (arc_bytes d.arcs) o₄ e₄ → Put out 0 (file_of d) o₄ e₄
-  file_put same l₁ l₂ l₃ p₁ p₂ p₃ p₄ =
-      put_parts out o₁ o₂ o₃ o₄ 0 3 e₂ e₃ e₄ (codes "PGD") (flat_map bytes_of (header_numbers d)) (map final_byte d.finals) (arc_bytes d.arcs)
-      l₁ l₂ l₃ p₁ (subst (λ h. Put o₁ 3 (flat_map bytes_of h) o₂ e₂) same p₂) p₃ p₄
-
-pub file_written : (d : Determined) (out out' : List ℕ) (n : ℕ) → length d.finals ≡ d.states → determined_length d ≤ length out
-    → Put out 0 (file_of d) out' n → FileWritten d out out' n
-file_written d out out' n e room p =
-    let f = put_front (file_of d) out out' n (omega (arith, length_file d e)) p in
-    record { length_used = f.used ∙ length_file d e; is = f.is; is_file = λ fit. record { fit = fit; is = f.front } }
+module _ (d : Determined) (o p q r s : Output) where
+  pub file_puts : Puts o (codes "PGD") p → Puts p (flat_map bytes_of (header_numbers d)) q
+      → Puts q (map final_byte d.finals) r → Puts r (arc_bytes d.arcs) s → Puts o (file_of d) s
+  file_puts w x y z = puts_then o p s _ _ w (puts_then p q s _ _ x (puts_then q r s _ _ y z))

@@ -1,16 +1,16 @@
 -- What the check of a file answers.
 use Rattle.std.specs.Prelude.{◌≡◌, ℕ, List, length, Ok, Err, Result}
 use Rattle.std.specs.List.{AllByRecursion}
-use Rattle.book.specs.declared.fault.Refusal.{Refusal}
 use Rattle.theory.specs.Subsets.{Determined}
 use Rattle.fields.specs.declared.fault.AcceptorFault.{AcceptorFault}
 use Rattle.fields.specs.Reading.{number_at}
 use Rattle.fields.specs.Refusals.{refusal}
 use Rattle.fields.specs.Flaws.{Passes, First}
+use Rattle.fields.specs.Files.{Checked as CheckedFile, OnlyChecked as OnlyFile, WholeJudged as JudgedWhole}
 use Rattle.pgd.specs.declared.check.Header.{Header}
-use Rattle.pgd.specs.Files.{IsFile}
+use Rattle.pgd.specs.Files.{file_of, Fit}
 use Rattle.pgd.specs.Reading.{decoded}
-use Rattle.pgd.specs.Flaws.{header_checks, file_checks, FileFault}
+use Rattle.pgd.specs.Flaws.{header_checks, file_checks}
 
 -- the header's checks pass, and these are its numbers
 pub record Headed (bytes : List ℕ) (h : Header) : Type 0 where
@@ -25,8 +25,7 @@ HeaderJudged bytes (Err f) = First bytes header_checks (refusal f)
 
 -- the same of all checks of a file
 abbrev pub WholeJudged : List ℕ → Result Header AcceptorFault → Type 0
-WholeJudged bytes (Ok h) = AllByRecursion (Passes bytes) (file_checks bytes) × Headed bytes h
-WholeJudged bytes (Err f) = FileFault bytes (refusal f)
+WholeJudged bytes r = JudgedWhole Headed file_checks bytes r
 
 -- the numbers in front of a determinised acceptor's states
 abbrev pub header : Determined → Header
@@ -34,10 +33,8 @@ header d = record { words = d.words; states = d.states; arcs = length d.arcs }
 
 -- the bytes are the file of the determinised acceptor that is read off them, with these numbers, or this is their first fault
 abbrev pub Checked : List ℕ → Result Header AcceptorFault → Type 0
-Checked bytes (Ok h) = IsFile bytes (decoded bytes) × (h ≡ header (decoded bytes))
-Checked bytes (Err f) = FileFault bytes (refusal f)
+Checked bytes r = CheckedFile Fit file_of decoded header file_checks bytes r
 
 -- no other answer would be right: the determinised acceptor is the only one, and the fault the only first one
 abbrev pub OnlyChecked : List ℕ → Result Header AcceptorFault → Type 0
-OnlyChecked bytes (Ok h) = ((d : Determined) → IsFile bytes d → d ≡ decoded bytes) × ((f : Refusal) → FileFault bytes f → ⊥)
-OnlyChecked bytes (Err f) = ((d : Determined) → IsFile bytes d → ⊥) × ((f' : Refusal) → FileFault bytes f' → f' ≡ refusal f)
+OnlyChecked bytes r = OnlyFile Fit file_of decoded header file_checks bytes r

@@ -10,6 +10,7 @@ use Rattle.finding.specs.Numbered.{Arrow}
 use Rattle.finding.specs.Laws.{Rises}
 use Rattle.theory.specs.Subsets.{Determined}
 use Rattle.fields.specs.Arcs.{arc_numbers, ArcWithin}
+use Rattle.fields.specs.Files.{FileOf}
 
 -- the numbers in front of the states
 abbrev pub header_numbers : Determined → List ℕ
@@ -37,6 +38,5 @@ pub record Fit (d : Determined) : Type 0 where
   pub arcs_rise : InOrder Rises d.arcs
 
 -- the bytes are the file of a determinised acceptor that fits
-pub record IsFile (bytes : List ℕ) (d : Determined) : Type 0 where
-  pub fit : Fit d
-  pub is : bytes ≡ file_of d
+abbrev pub IsFile : List ℕ → Determined → Type 0
+IsFile bytes d = FileOf Fit file_of bytes d

@@ -1,5 +1,5 @@
 -- The determinised acceptor that write takes, and what write answers and leaves.
-use Rattle.std.specs.Prelude.{◌≡◌, ℕ, ◌<◌, Bool, List, ◌++◌, map, length, take, drop, Ok, Err, Result, nat_eq}
+use Rattle.std.specs.Prelude.{ℕ, Bool, List, map, length, Result, nat_eq}
 use Rattle.table.specs.declared.numbers.NodeNo.{NodeNo}
 use Rattle.table.specs.declared.numbers.StateNo.{StateNo}
 use Rattle.table.specs.declared.sets.NumberSet.{NumberSet}
@@ -10,7 +10,8 @@ use Rattle.finding.specs.Finding.{arrow}
 use Rattle.theory.specs.Lists.{any}
 use Rattle.theory.specs.Subsets.{Determined, determined_length}
 use Rattle.fields.specs.declared.fault.OutputShort.{OutputShort}
-use Rattle.pgd.specs.Files.{file_of, Fit, IsFile}
+use Rattle.fields.specs.Files.{FileWritten as WrittenFile, Written as WrittenBy}
+use Rattle.pgd.specs.Files.{file_of, Fit}
 
 -- the sets of nodes of the states as plain numbers
 abbrev pub sets : List (NumberSet NodeNo) → List (List ℕ)
@@ -33,12 +34,9 @@ determined words rows final moves =
     record { words = words; states = length rows; finals = map (is_final final) (sets rows); arcs = arrows moves }
 
 -- the output begins with the n bytes of the file of d, and all after them is as it was
-pub record FileWritten (d : Determined) (out out' : List ℕ) (n : ℕ) : Type 0 where
-  pub length_used : n ≡ determined_length d
-  pub is : out' ≡ file_of d ++ drop n out
-  pub is_file : Fit d → IsFile (take n out') d
+abbrev pub FileWritten : Determined → List ℕ → List ℕ → ℕ → Type 0
+FileWritten d out out' n = WrittenFile Fit file_of determined_length d out out' n
 
 -- what write answers and leaves
 abbrev pub Written : Determined → List ℕ → Result ℕ OutputShort → List ℕ → Type 0
-Written d out (Ok n) out' = FileWritten d out out' n
-Written d out (Err f) out' = (f.needed ≡ determined_length d) × (length out < determined_length d) × (out' ≡ out)
+Written d out r out' = WrittenBy Fit file_of determined_length d out r out'

@@ -2,5 +2,5 @@
 #![tactic(auto)]
 
 pub mod check;
-mod format;
+pub mod format;
 pub mod writer;

@@ -1,17 +1,14 @@
 //! Writing the file of a determinised acceptor.
 ghost use Rattle.std.specs.Prelude.{◌≡◌, ◌^◌, ◌≤◌, [], ◌∷◌, map, length};
-ghost use Rattle.std.specs.List.{flat_map};
-ghost use Rattle.book.specs.Files.{bytes_of};
 ghost use Rattle.table.specs.Sets.{members};
-ghost use Rattle.fields.specs.Arcs.{arc_numbers};
-ghost use Rattle.fields.specs.Putting.{Put};
+ghost use Rattle.fields.specs.Putting.{Puts};
 ghost use Rattle.pgd.specs.Files.{final_byte};
-ghost use Rattle.pgd.specs.Writing.{sets, is_final, arrows, determined, Written};
+ghost use Rattle.pgd.specs.Writing.{sets, is_final, determined, Written};
 
 use super::format::{FINALS_AT, MARK};
 use fields::fault::OutputShort;
 use fields::format::{ARC_SIZE, VERSION};
-use fields::output::{put_byte, put_numbers};
+use fields::output::Output;
 use finding::moves::Move;
 use table::numbers::{NodeNo, StateNo};
 use table::sets::NodeSet;
@@ -30,32 +27,20 @@ pub struct Parts<'a> {
 fn final_byte(row: &NodeSet, final_node: NodeNo) -> u8
     ensures { result ≡ final_byte (is_final final_node (members row.now.words)) }
 {
-    if row.has(final_node) { 1 } else { 0 }
+    u8::from(row.has(final_node))
 }
 
-/// Puts a byte for each state; the place after them.
-fn put_finals(out: &mut [u8], at: usize, rows: &[NodeSet], final_node: NodeNo) -> usize
-    requires { (at ≤ 16) × (length rows.now ≤ 1024) }
-    ensures { Put out.old at (map final_byte (map (is_final final_node) (sets rows.now))) out.new result }
+/// Puts a byte for each state.
+fn put_finals(out: &mut Output, rows: &[NodeSet], final_node: NodeNo)
+    requires { (out.old.at ≤ 16) × (length rows.now ≤ 1024) }
+    ensures { Puts out.old (map final_byte (map (is_final final_node) (sets rows.now))) out.new }
 {
-    let mut end = at;
     for row in rows {
-        end = put_byte(out, end, final_byte(row, final_node));
+        out.byte(final_byte(row, final_node));
     }
-    end
 }
 
-/// Puts the arcs; the place after them.
-fn put_arcs(out: &mut [u8], at: usize, arcs: &[Move<StateNo>]) -> usize
-    requires { (at ≤ 2 ^ 32) × (length arcs.now ≤ 16384) }
-    ensures { Put out.old at (flat_map bytes_of (flat_map arc_numbers (arrows arcs.now))) out.new result }
-{
-    let mut end = at;
-    for m in arcs {
-        end = put_numbers(out, end, &[m.from.0, m.symbol, m.to.0]);
-    }
-    end
-}
+// The layouts of the two kinds differ after the front, and what both share stands in `fields`.
 
 /// The numbers in front of the states.
 fn header_of(parts: Parts) -> [u16; 4]
@@ -81,9 +66,10 @@ pub fn write(parts: Parts, out: &mut [u8]) -> Result<usize, OutputShort>
     if out.len() < needed {
         return Err(OutputShort { needed });
     }
-    out[0..MARK.len()].copy_from_slice(&MARK);
-    let header = header_of(parts);
-    let finals_at = put_numbers(out, MARK.len(), &header);
-    let arcs_at = put_finals(out, finals_at, parts.rows, parts.final_node);
-    Ok(put_arcs(out, arcs_at, parts.arcs))
+    let mut output = Output::new(out);
+    output.text(&MARK);
+    output.numbers(&header_of(parts));
+    put_finals(&mut output, parts.rows, parts.final_node);
+    output.arcs(parts.arcs, |_| true);
+    Ok(output.place())
 }

@@ -2,43 +2,23 @@
 use book::Refusal;
 use pgd::check::{Header, check_file};
 use std::process::Abort;
-use std::test::Fail;
 
 /// The bytes are a determinised acceptor's file with so many words, states and arcs.
-pub fn accepts(
-    rt: &impl Abort,
-    file: &[u8],
-    words: usize,
-    states: usize,
-    arcs: usize,
-) -> Result<(), Fail> {
-    match check_file(file) {
-        Ok(
-            Header {
-                words: w,
-                states: s,
-                arcs: a,
-            },
-        ) => {
-            assert_eq!(rt; (w, s, a), (words, states, arcs));
-            Ok(())
-        },
-        Err(_) => Err(Fail::new("refused")),
-    }
+pub fn accepts(rt: &impl Abort, file: &[u8], words: usize, states: usize, arcs: usize) {
+    let header = Header {
+        words,
+        states,
+        arcs,
+    };
+    assert_eq!(rt; check_file(file), Ok(header));
 }
 
 /// The bytes are no determinised acceptor's file, with the first fault at this place.
-pub fn refuses(rt: &impl Abort, file: &[u8], place: usize) -> Result<(), Fail> {
-    match check_file(file) {
-        Ok(_) => Err(Fail::new("not refused")),
-        Err(fault) => {
-            let Refusal {
-                number,
-                layer,
-                place: p,
-            } = fault.refusal();
-            assert_eq!(rt; (number, layer, p), (17, 5, place));
-            Ok(())
-        }
-    }
+pub fn refuses(rt: &impl Abort, file: &[u8], place: usize) {
+    let refusal = Refusal {
+        number: 17,
+        layer: 5,
+        place,
+    };
+    assert_eq!(rt; check_file(file).err().map(Refusal::from), Some(refusal));
 }

@@ -14,22 +14,22 @@ pub const FILE: [u8; 38] = [
 pub const ARCS: [(u16, u16, u16); 4] = [(0, 0, 1), (1, 0, 1), (1, 1, 2), (2, 1, 2)];
 
 /// The sets of nodes of its states; the final node is 2.
-pub const SETS: [(u16, u16, u16); 3] = [(0, 2, 2), (1, 3, 3), (2, 3, 4)];
+pub const SETS: [[u16; 3]; 3] = [[0, 2, 2], [1, 3, 3], [2, 3, 4]];
 
 /// The arc of these numbers.
-pub fn arc_of(m: (u16, u16, u16)) -> Move<StateNo> {
+pub fn arc_of((from, symbol, to): (u16, u16, u16)) -> Move<StateNo> {
     Move {
-        from: StateNo(m.0),
-        symbol: m.1,
-        to: StateNo(m.2),
+        from: StateNo(from),
+        symbol,
+        to: StateNo(to),
     }
 }
 
 /// The set of these nodes.
-pub fn set_of(nodes: (u16, u16, u16)) -> NodeSet {
+pub fn set_of(nodes: [u16; 3]) -> NodeSet {
     let mut set = NodeSet::empty();
-    set.insert(NodeNo(nodes.0));
-    set.insert(NodeNo(nodes.1));
-    set.insert(NodeNo(nodes.2));
+    for node in nodes {
+        set.insert(NodeNo(node));
+    }
     set
 }

@@ -1,18 +1,13 @@
 //! What write leaves in an output that is long enough, and in one that is not.
 use super::example::{ARCS, FILE, SETS, arc_of, set_of};
+use fields::fault::OutputShort;
 use pgd::writer::{Parts, write};
-use std::test::Fail;
 use table::numbers::NodeNo;
 
 #[test]
-fn writes_the_example(rt: HostRuntime) -> Result<(), Fail> {
-    let rows = [set_of(SETS[0]), set_of(SETS[1]), set_of(SETS[2])];
-    let arcs = [
-        arc_of(ARCS[0]),
-        arc_of(ARCS[1]),
-        arc_of(ARCS[2]),
-        arc_of(ARCS[3]),
-    ];
+fn writes_the_example(rt: HostRuntime) {
+    let rows = SETS.map(set_of);
+    let arcs = ARCS.map(arc_of);
     let parts = Parts {
         words: 2,
         rows: &rows,
@@ -20,22 +15,18 @@ fn writes_the_example(rt: HostRuntime) -> Result<(), Fail> {
         arcs: &arcs,
     };
     let mut out = [9; 40];
-    match write(parts, &mut out[0..37]) {
-        Ok(_) => return Err(Fail::new("not refused")),
-        Err(short) => assert_eq!(rt; short.needed, 38),
-    }
+    assert_eq!(rt;
+        write(parts, &mut out[..37]),
+        Err(OutputShort { needed: 38 })
+    );
     assert_eq!(rt; out, [9; 40]);
-    match write(parts, &mut out) {
-        Ok(used) => assert_eq!(rt; used, 38),
-        Err(_) => return Err(Fail::new("refused")),
-    }
+    assert_eq!(rt; write(parts, &mut out), Ok(38));
     assert!(rt; out.starts_with(&FILE));
     assert_eq!(rt; (out[38], out[39]), (9, 9));
-    Ok(())
 }
 
 #[test]
-fn writes_one_state(rt: HostRuntime) -> Result<(), Fail> {
+fn writes_one_state(rt: HostRuntime) {
     let rows = [set_of(SETS[0])];
     let mut out = [9; 12];
     let parts = Parts {
@@ -44,10 +35,6 @@ fn writes_one_state(rt: HostRuntime) -> Result<(), Fail> {
         final_node: NodeNo(1),
         arcs: &[],
     };
-    match write(parts, &mut out) {
-        Ok(used) => assert_eq!(rt; used, 12),
-        Err(_) => return Err(Fail::new("refused")),
-    }
+    assert_eq!(rt; write(parts, &mut out), Ok(12));
     assert_eq!(rt; out, [0x50, 0x47, 0x44, 1, 0, 1, 0, 1, 0, 0, 0, 0]);
-    Ok(())
 }

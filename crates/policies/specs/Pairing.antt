@@ -4,9 +4,10 @@ use Rattle.std.proofs.lemmas.List.{length-map, map_push}
 use Rattle.table.specs.Lists.{StandsAt, Lacks, Distinct}
 use Rattle.table.specs.declared.numbers.ClassNo.{ClassNo}
 use Rattle.table.proofs.Lists.{stands_below, stands_same, stands_is, stands_map, stands_unmap, distinct_one, distinct_push}
-use Rattle.theory.specs.Policies.{Class, left_class, right_class}
+use Rattle.theory.specs.Policies.{Class, Meaning, left_class, right_class}
 use Rattle.theory.specs.Policies.Class.{states, pair}
-use Rattle.policy.specs.Classes.{Room, HasRoom, Taken, class_at, HasPlace}
+use Rattle.policy.specs.declared.stacks.Push.{Push}
+use Rattle.policy.specs.Classes.{Room, HasRoom, after_push, Taken, class_at, HasPlace}
 use Rattle.policy.specs.Classes.Taken.{old, new, unheld, no_place}
 use Rattle.policy.specs.Places.{Placed}
 use Rattle.policy.specs.Places.Placed.{old as p_old, new as p_new, full as p_full}
@@ -71,6 +72,10 @@ pub record Below : Type 0 where
   pub onward : Class → Class
   pub held : List Class
   pub distinct : Distinct held
+
+-- the one that a push asks of a policy
+abbrev pub below : Room → Meaning → Push → (held : List Class) → Distinct held → Below
+below room meaning push held distinct = record { room = room; onward = after_push meaning push; held = held; distinct = distinct }
 
 module _ (P Q : Below) (rs : List Pair) (p : Paired P.held Q.held rs) (i : ℕ) where
   abbrev cs : List Class
@@ -224,6 +229,3 @@ module _ {cs ds : List Class} {rs : List Pair} {c d : Class} (e : cs ≡ c ∷ [
   pub paired_at_first : Paired cs ds rs
   paired_at_first =
       subst (λ (l : List Class). Paired l ds rs) (sym e) (subst (λ (l : List Class). Paired (c ∷ []) l rs) (sym f) (subst (Paired (c ∷ []) (d ∷ [])) (sym g) (paired_first c d)))
-
-  pub pairs_at_first : pair_classes cs ds rs ≡ pair c d ∷ []
-  pairs_at_first = ap (λ (l : List Class). pair_classes l ds rs) e ∙ ap (λ (l : List Class). pair_classes (c ∷ []) l rs) f ∙ ap (pair_classes (c ∷ []) (d ∷ [])) g

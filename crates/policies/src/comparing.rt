@@ -1,7 +1,7 @@
 //! How policies compare: a finer one tells apart at least the stacks that a coarser one does.
-ghost use Rattle.std.specs.Prelude.{◌≡◌, ◌+◌, List, [], ◌∷◌, IfSome, MatchOption};
+ghost use Rattle.std.specs.Prelude.{◌≡◌, ◌+◌, List, [], ◌∷◌, length, IfSome, MatchOption};
 ghost use Rattle.finding.specs.Numbered.{Arrow};
-ghost use Rattle.theory.specs.Policies.{Finer, one_class, path, last, arrivals};
+ghost use Rattle.theory.specs.Policies.{Finer, one_class, path, last, arrivals, listed};
 ghost use Rattle.theory.specs.Policies.Class.{states};
 ghost use Rattle.policies.specs.declared.last.Depth.TheVariants.{Four};
 ghost use Rattle.policies.specs.Lasts.{depth_of};
@@ -32,7 +32,8 @@ pub fn deeper(depth: Depth) -> Option<Depth>
 
 /// How many states path keeps once the states 1, 2, 3, 1, 4 and 2 were reached: state 0 and the last three, since the first loop is cut out.
 pub fn worked_path() -> u8
-    ensures { arrivals path path.first (1 ∷ (2 ∷ (3 ∷ (1 ∷ (4 ∷ (2 ∷ [])))))) ≡ states (0 ∷ (1 ∷ (4 ∷ (2 ∷ [])))) }
+    ensures class { arrivals path path.first (1 ∷ (2 ∷ (3 ∷ (1 ∷ (4 ∷ (2 ∷ [])))))) ≡ states (0 ∷ (1 ∷ (4 ∷ (2 ∷ [])))) }
+    ensures kept { result ≡ length (listed (arrivals path path.first (1 ∷ (2 ∷ (3 ∷ (1 ∷ (4 ∷ (2 ∷ [])))))))) }
 {
     4
 }

@@ -1,4 +1,3 @@
 pub mod Placing
-pub mod Single
 pub mod Mapped
 pub mod Tracking

@@ -1,13 +1,13 @@
 -- What is taken where an entry stands for its class whatever else is held.
-use Rattle.std.proofs.Common.{◌≡◌, ℕ, ◌≤◌, List, [], ◌∷◌, ◌++◌, map, length, Some, None, Option, sym, ap, ◌∙◌, subst, arith}
+use Rattle.std.proofs.Common.{◌≡◌, ℕ, ◌≤◌, List, [], ◌∷◌, ◌++◌, map, length, None, Option, sym, ap, ◌∙◌, subst, arith}
 use Rattle.std.proofs.lemmas.List.{length-map, map_push}
-use Rattle.std.proofs.lemmas.Bool.{lt-ltb, ltb-true}
 use Rattle.table.specs.Lists.{StandsAt, Lacks, Distinct}
 use Rattle.table.specs.declared.numbers.ClassNo.{ClassNo}
 use Rattle.table.proofs.Lists.{stands_map, stands_unmap, distinct_push}
 use Rattle.theory.specs.Policies.{Class}
 use Rattle.policy.specs.Classes.{free_place, Taken}
-use Rattle.policy.specs.Classes.Taken.{old, new, unheld, no_place}
+use Rattle.policy.specs.Classes.Taken.{unheld}
+use Rattle.policy.specs.Taking.{placed_taken}
 use Rattle.policy.specs.Places.{Placed}
 use Rattle.policy.specs.Places.Placed.{old as p_old, new as p_new, full as p_full}
 
@@ -24,14 +24,11 @@ module _ {E : Type 0} (f : E → Class) (one : (x y : E) → f x ≡ f y → x �
 
   -- where an entry for the class after the one at i is found or added
   pub map_taken : (onward : Class → Class) (i : ℕ) (a e : E) → StandsAt es i a → f e ≡ onward (f a) → {r : Option ClassNo} {es' : List E} → Placed es e r es' → Taken free_place (map f es) onward i r (map f es')
-  map_taken onward i a e s q (p_old {j = j} t) = old (f a) (stands_map f es i a s) (subst (StandsAt (map f es) j.0) q (stands_map f es j.0 e t))
-  map_taken onward i a e s q (p_new {j = j} n l h) =
-      let m = length-map es f in
-      subst (Taken free_place (map f es) onward i (Some j)) (ap (λ (c : Class). map f es ++ (c ∷ [])) (sym q) ∙ sym (map_push f es e))
-      (new (f a) (stands_map f es i a s) (subst (Lacks (map f es)) q (lacks e l)) (lt-ltb (length (map f es)) 4096 (omega arith)) (n ∙ sym m))
-  map_taken onward i a e s q (p_full l h) =
-      let m = length-map es f in
-      no_place (f a) (stands_map f es i a s) (subst (Lacks (map f es)) q (lacks e l)) (λ k. omega (arith, ltb-true (length (map f es)) 4096 k))
+  map_taken onward i a e s q =
+      placed_taken (map f) es e onward i (stands_map f es i a s) (length-map es f)
+      (λ j t. subst (StandsAt (map f es) j) q (stands_map f es j e t))
+      (λ l. subst (Lacks (map f es)) q (lacks e l))
+      (λ l. map_push f es e ∙ ap (λ (c : Class). map f es ++ (c ∷ [])) q)
 
   pub map_past : (onward : Class → Class) (i : ℕ) → length es ≤ i → Taken free_place (map f es) onward i None (map f es)
   map_past onward i h = unheld (omega (arith, length-map es f))

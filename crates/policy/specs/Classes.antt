@@ -6,6 +6,7 @@ use Rattle.table.specs.declared.numbers.ClassNo.{ClassNo}
 use Rattle.finding.specs.Numbered.{Firsts}
 use Rattle.theory.specs.Policies.{Class, Meaning}
 use Rattle.theory.specs.Policies.Class.{states}
+use Rattle.policy.specs.declared.stacks.Push.{Push}
 
 -- whether a new class has a place beside the classes held
 abbrev pub Room : Type 0
@@ -26,6 +27,10 @@ no_room held c = false
 -- the class after a pair is pushed: the state left and the symbol, on the way to the state reached
 abbrev pub pushed : Meaning → ℕ → ℕ → ℕ → Class → Class
 pushed m left symbol reached c = m.next c left symbol reached
+
+-- the class after a push
+abbrev pub after_push : Meaning → Push → Class → Class
+after_push m push = pushed m push.left.0 push.symbol push.reached.0
 
 -- the class after the class numbered i: its number, if it is held or has a place, and the classes held then
 pub data Taken (room : Room) (held : List Class) (onward : Class → Class) (i : ℕ) : Option ClassNo → List Class → Type 0 where

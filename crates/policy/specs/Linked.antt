@@ -1,13 +1,13 @@
 -- Links and the lists of states that they stand for.
-use Rattle.std.specs.Prelude.{◌≡◌, ℕ, zero, suc, ◌+◌, ◌<◌, ◌≤◌, true, false, ◌≢◌, List, [], ◌∷◌, ◌++◌, length, get_or, take, Some, None, Option, ◌==◌, nat_eq, slice_index_or, refl}
+use Rattle.std.specs.Prelude.{◌≡◌, ℕ, zero, suc, ◌+◌, ◌<◌, true, false, ◌≢◌, List, [], ◌∷◌, ◌++◌, length, get_or, Some, None, Option, ◌==◌, nat_eq, slice_index_or, refl}
 use Rattle.std.proofs.Common.{sym, ap, subst, ◌∙◌, ⊎_elim, zero-add, arith, eq-eqb, eqb-true}
 use Rattle.std.proofs.Math.Option.{some}
 use mathlib.Core.List.Memᴰ
 use mathlib.Core.List.{Memᴰ}
-use Rattle.std.proofs.lemmas.List.{get_or_default, length_push}
+use Rattle.std.proofs.lemmas.List.{length_push}
 use Rattle.table.specs.Lists.{StandsAt, Distinct}
 use Rattle.table.specs.declared.numbers.ClassNo.{ClassNo}
-use Rattle.table.proofs.Lists.{stands_below, stands_same, stands_is, stands_getD, stands_left, stands_last, stands_read, at_mem}
+use Rattle.table.proofs.Lists.{stands_below, stands_same, stands_is, stands_getD, stands_left, stands_last, at_mem}
 use Rattle.theory.specs.Policies.{cut_after}
 use Rattle.theory.proofs.Lists.{true_or_false}
 use Rattle.policy.specs.declared.path.Link.{Link}
@@ -164,7 +164,3 @@ module _ (ls : List Link) (c : Chained ls) where
       let (m, at) = met e.before (e.behind h) in
       let cut : cut_after ss t ≡ cut_after e.before t = ap (λ (l : List ℕ). cut_after l t) e.is ∙ cut_early e.before l.state.0 t m in
       (subst (Memᴰ t) (sym e.is) (Memᴰ.append_left (l.state.0 ∷ []) m), subst (StandsAt (paths ls) j.0) (sym cut) at)
-
--- the link of a number, as it is read
-pub read_link : (rows : List Link) (n i : ℕ) → n ≤ length rows → i < n → StandsAt (take n rows) i (slice_index_or rows i (link 0 0))
-read_link rows n i l h = stands_read rows n i (slice_index_or rows i (link 0 0)) h l (get_or_default rows i (link 0 0) _ (omega arith))

@@ -1,5 +1,5 @@
 -- Lists of states by links: each link adds a state to the list of the link behind it.
-use Rattle.std.specs.Prelude.{ℕ, ◌<◌, List, [], ◌∷◌, ◌++◌, map, Some, None, Option, slice_index_or}
+use Rattle.std.specs.Prelude.{ℕ, ◌<◌, ◌≤◌, List, [], ◌∷◌, ◌++◌, map, length, Some, None, Option, slice_index_or}
 use mathlib.Core.List.{Memᴰ}
 use Rattle.table.specs.Lists.{StandsAt, Distinct}
 use Rattle.table.specs.declared.numbers.ClassNo.{ClassNo}
@@ -37,3 +37,9 @@ pub record Chained (ls : List Link) : Type 0 where
 abbrev pub Met : List (List ℕ) → ℕ → ℕ → Option ClassNo → Type 0
 Met ps i t None = (ss : List ℕ) → StandsAt ps i ss → Memᴰ t ss → ⊥
 Met ps i t (Some j) = (ss : List ℕ) → StandsAt ps i ss → Memᴰ t ss × StandsAt ps j.0 (cut_after ss t)
+
+-- the link of the class after the one numbered i, as the state t is reached: the one held where the way meets t, or a new one; none where i is no class
+pub data LinkAfter (ls : List Link) (i t : ℕ) : Option Link → Type 0 where
+  held : (j : ClassNo) {l : Link} → i < length ls → StandsAt ls j.0 l → Met (paths ls) i t (Some j) → LinkAfter ls i t (Some l)
+  new : i < length ls → Met (paths ls) i t None → LinkAfter ls i t (Some (link i t))
+  unheld : length ls ≤ i → LinkAfter ls i t None

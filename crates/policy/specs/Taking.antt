@@ -1,16 +1,15 @@
 -- What is taken is settled by the classes held: asking foretells it.
 use Rattle.std.specs.Prelude.{◌≡◌, ℕ, ◌≤◌, List, [], ◌∷◌, ◌++◌, length, Some, None, Option, refl}
 use Rattle.std.proofs.Common.{sym, ap, subst, ◌∙◌, arith}
-use Rattle.std.proofs.lemmas.Bool.{false≢true}
+use Rattle.std.proofs.lemmas.Bool.{false≢true, lt-ltb, ltb-true}
 use Rattle.table.specs.Lists.{StandsAt, Lacks, Distinct}
 use Rattle.table.specs.declared.numbers.ClassNo.{ClassNo}
 use Rattle.table.proofs.Lists.{stands_below, stands_same}
 use Rattle.theory.specs.Policies.{Class}
-use Rattle.policy.specs.Classes.{Room, HasRoom, no_room, Taken, Foretold}
+use Rattle.policy.specs.Classes.{Room, HasRoom, free_place, no_room, Taken, Foretold}
 use Rattle.policy.specs.Classes.Taken.{old, new, unheld, no_place}
-
-pub class_same : (i j : ClassNo) → i.0 ≡ j.0 → i ≡ j
-class_same i j e = ap (λ (n : ℕ). record { 0 = n }) e
+use Rattle.policy.specs.Places.{Placed}
+use Rattle.policy.specs.Places.Placed.{old as p_old, new as p_new, full as p_full}
 
 some_same : (i j : ClassNo) → i.0 ≡ j.0 → ◌≡◌ {A = Option ClassNo} (Some i) (Some j)
 some_same i j e = ap (λ (n : ℕ). Some (record { 0 = n })) e
@@ -60,3 +59,16 @@ none_new (old c s a) = old c s a
 none_new (new c s l f q) = absurd (false≢true f)
 none_new (unheld p) = unheld p
 none_new (no_place c s l f) = no_place c s l f
+
+-- where entries stand for classes, one for each, and e for the class after the one at i: as e is found or added, that class is taken
+module _ {E : Type 0} (of : List E → List Class) (es : List E) (e : E) (onward : Class → Class) (i : ℕ) {c : Class} (here : StandsAt (of es) i c)
+    (as_many : length (of es) ≡ length es)
+    (there : (j : ℕ) → StandsAt es j e → StandsAt (of es) j (onward c))
+    (lacks : Lacks es e → Lacks (of es) (onward c))
+    (more : Lacks es e → of (es ++ (e ∷ [])) ≡ of es ++ (onward c ∷ [])) where
+  pub placed_taken : {r : Option ClassNo} {es' : List E} → Placed es e r es' → Taken free_place (of es) onward i r (of es')
+  placed_taken (p_old {j = j} s) = old c here (there j.0 s)
+  placed_taken (p_new {j = j} n l f) =
+      subst (Taken free_place (of es) onward i (Some j)) (sym (more l))
+      (new c here (lacks l) (lt-ltb (length (of es)) 4096 (omega (arith, as_many))) (n ∙ sym as_many))
+  placed_taken (p_full l f) = no_place c here (lacks l) (λ h. omega (arith, as_many, ltb-true (length (of es)) 4096 h))

@@ -7,8 +7,8 @@ ghost use Rattle.table.proofs.Lists.{distinct_one};
 ghost use Rattle.policy.specs.Taking;
 ghost use Rattle.std.proofs.Common.{rules};
 
-use crate::stacks::Policy;
-use table::numbers::{ClassNo, StateNo};
+use crate::stacks::{Policy, Push};
+use table::numbers::ClassNo;
 
 /// The policy with a single class.
 #[derive(Clone, Copy, PartialEq, Eq, Debug)]
@@ -33,23 +33,11 @@ impl Policy for OneClass {
 
     fn clear(&mut self) {}
 
-    fn fits(
-        &self,
-        class: ClassNo,
-        _state: StateNo,
-        _symbol: u16,
-        _reached: StateNo,
-    ) -> Option<ClassNo> {
+    fn fits(&self, class: ClassNo, _push: Push) -> Option<ClassNo> {
         if class.0 == 0 { Some(class) } else { None }
     }
 
-    fn next(
-        &mut self,
-        class: ClassNo,
-        state: StateNo,
-        symbol: u16,
-        reached: StateNo,
-    ) -> Option<ClassNo> {
-        self.fits(class, state, symbol, reached)
+    fn next(&mut self, class: ClassNo, push: Push) -> Option<ClassNo> {
+        self.fits(class, push)
     }
 }

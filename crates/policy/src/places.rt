@@ -1,5 +1,5 @@
-//! Entries in 4,096 rows that are lent: the first `len` rows are the entries, numbered by their places.
-ghost use Rattle.std.specs.Prelude.{◌≡◌, ℕ, ◌<◌, ◌≤◌, [], ◌∷◌, length, take};
+//! Entries in 4,096 places, numbered by their places.
+ghost use Rattle.std.specs.Prelude.{◌≡◌, ℕ, ◌≤◌, [], ◌∷◌, length};
 ghost use Rattle.table.specs.Found.{FoundOrAdded};
 ghost use Rattle.table.specs.Lists.{Exact};
 ghost use Rattle.policy.specs.Places.{Fixed, Placed, Placeable, EntryAt};
@@ -7,63 +7,82 @@ ghost use Rattle.policy.specs.Places.{Fixed, Placed, Placeable, EntryAt};
 use table::entries::{Table, find};
 use table::numbers::ClassNo;
 
-/// Leaves one entry, number 0, and tells how many entries there are.
-pub fn begin<E: Copy>(rows: &mut [E], first: E) -> usize
-    requires { length rows.old ≡ 4096 }
-    ensures fixed { Fixed rows.new result }
-    ensures first { take result rows.new ≡ first ∷ [] }
-{
-    rows[0] = first;
-    1
+/// The first `len` of the rows are the entries.
+// Rows and a count: nothing is allocated, so a policy holds its table itself, at its full size.
+#[derive(Drop)]
+pub struct Places<E> {
+    rows: [E; 4096],
+    len: usize,
+    ghost fixed: { Fixed rows len },
 }
 
-/// The entry of this number.
-pub fn entry<E: Copy>(rows: &[E], len: usize, class: ClassNo) -> Option<E>
-    requires { Fixed rows.now len }
-    ensures { EntryAt (take len rows.now) class.0 result }
-{
-    let i = class.0 as usize;
-    if i < len { Some(rows[i]) } else { None }
-}
+impl<E: Copy> Places<E> {
+    ghost use Rattle.policy.specs.Entries.{entries};
 
-/// The number that `place` would give.
-pub fn look<E: PartialEq + Copy>(rows: &[E], len: usize, e: E) -> Option<ClassNo>
-    requires exact { Exact (λ x' y' r'. r' ≡ E.PartialEq.eq x' y') }
-    requires fixed { Fixed rows.now len }
-    ensures { Placeable (take len rows.now) e result }
-{
-    if let Some(i) = find(&rows[0..len], &e) {
-        return Some(ClassNo(i as u16));
+    /// One entry, number 0.
+    pub fn new(first: E) -> Places<E>
+        ensures { entries result ≡ first ∷ [] }
+    {
+        Places {
+            rows: [first; 4096],
+            len: 1,
+        }
     }
-    if len < 4096 {
-        Some(ClassNo(len as u16))
-    } else {
-        None
+
+    /// Leaves one entry, number 0.
+    pub fn clear(&mut self, first: E)
+        ensures { entries self.new ≡ first ∷ [] }
+    {
+        self.rows[0] = first;
+        self.len = 1;
+    }
+
+    /// The entry of this number.
+    pub fn get(&self, class: ClassNo) -> Option<E>
+        ensures { EntryAt (entries self.now) class.0 result }
+    {
+        self.rows[..self.len].get(class.0 as usize).copied()
     }
 }
 
-/// Find-or-add in the table of the first `len` rows: the number, if there is one, and how many rows are then in use.
-fn find_or_add<E: PartialEq + Copy>(rows: &mut [E], len: usize, e: E) -> (Option<usize>, usize)
+// That equality is exact is asked where entries are compared: the bound does not say it.
+impl<E: PartialEq + Copy> Places<E> {
+    ghost use Rattle.policy.specs.Entries.{entries};
+
+    /// The number that `place` would give.
+    pub fn look(&self, e: E) -> Option<ClassNo>
+        requires exact { Exact (λ x' y' r'. r' ≡ E.PartialEq.eq x' y') }
+        ensures { Placeable (entries self.now) e result }
+    {
+        if let Some(i) = find(&self.rows[..self.len], &e) {
+            return Some(ClassNo(i as u16));
+        }
+        if self.len < 4096 {
+            Some(ClassNo(self.len as u16))
+        } else {
+            None
+        }
+    }
+
+    /// The number of the entry that equals `e`, or of `e` added at the end; none where it is not there and no place is free.
+    pub fn place(&mut self, e: E) -> Option<ClassNo>
+        requires exact { Exact (λ x' y' r'. r' ≡ E.PartialEq.eq x' y') }
+        ensures { Placed (entries self.old) e result (entries self.new) }
+    {
+        let i = find_or_add(&mut self.rows, &mut self.len, e)?;
+        Some(ClassNo(i as u16))
+    }
+}
+
+/// Find-or-add in the table of the first `len` rows.
+// A function over the slice: where an array of a type parameter is itself lent to the table, the proof does not see what the loan leaves in it.
+fn find_or_add<E: PartialEq + Copy>(rows: &mut [E], len: &mut usize, e: E) -> Option<usize>
     requires exact { Exact (λ x' y' r'. r' ≡ E.PartialEq.eq x' y') }
-    requires fit { len ≤ length rows.old }
-    ensures { FoundOrAdded rows.old len e result.0 rows.new result.1 }
+    requires fit { len.old ≤ length rows.old }
+    ensures { FoundOrAdded rows.old len.old e result rows.new len.new }
 {
-    let mut table = Table::new(rows, len);
+    let mut table = Table::new(rows, *len);
     let found = table.find_or_add(e);
-    (found, table.len())
-}
-
-/// The number of the entry that equals `e`, or of `e` added at the end, and how many entries there are then;
-/// no number where it is not there and no place is free.
-pub fn place<E: PartialEq + Copy>(rows: &mut [E], len: usize, e: E) -> (Option<ClassNo>, usize)
-    requires exact { Exact (λ x' y' r'. r' ≡ E.PartialEq.eq x' y') }
-    requires fixed { Fixed rows.old len }
-    ensures fixed { Fixed rows.new result.1 }
-    ensures placed { Placed (take len rows.old) e result.0 (take result.1 rows.new) }
-{
-    let (found, len) = find_or_add(rows, len, e);
-    match found {
-        Some(i) => (Some(ClassNo(i as u16)), len),
-        None => (None, len),
-    }
+    *len = table.len();
+    found
 }

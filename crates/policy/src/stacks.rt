@@ -2,9 +2,17 @@
 ghost use Rattle.std.specs.Prelude.{◌≡◌, List, [], ◌∷◌};
 ghost use Rattle.table.specs.Lists.{Distinct};
 ghost use Rattle.theory.specs.Policies.{Class, Meaning};
-ghost use Rattle.policy.specs.Classes.{Room, pushed, Taken, Fitting, Foretold};
+ghost use Rattle.policy.specs.Classes.{Room, after_push, Taken, Fitting, Foretold};
 
 use table::numbers::{ClassNo, StateNo};
+
+/// A push: of the pair of the state left and the symbol, on the way to the state reached.
+#[derive(Clone, Copy, PartialEq, Eq, Debug)]
+pub struct Push {
+    pub left: StateNo,
+    pub symbol: u16,
+    pub reached: StateNo,
+}
 
 /// Sorts stacks into classes. A class gets its number when it is taken, and keeps it.
 pub trait Policy {
@@ -32,23 +40,17 @@ pub trait Policy {
         ensures held { held self.new ≡ (meaning (kind self.old)).first ∷ [] };
 
     /// The number that `next` would give.
-    fn fits(&self, class: ClassNo, state: StateNo, symbol: u16, reached: StateNo) -> Option<ClassNo>
+    fn fits(&self, class: ClassNo, push: Push) -> Option<ClassNo>
         requires { ready self.now }
-        ensures { Fitting (room (kind self.now)) (held self.now) (pushed (meaning (kind self.now)) state.0 symbol reached.0) class.0 result };
+        ensures { Fitting (room (kind self.now)) (held self.now) (after_push (meaning (kind self.now)) push) class.0 result };
 
-    /// The number of the class after `class` where `state` is left by `symbol` for `reached`; a class not yet held is taken.
+    /// The number of the class after `class` once the pair is pushed; a class not yet held is taken.
     /// None, and nothing changes, where `class` is not held or the class after it has no place.
-    fn next(
-        &mut self,
-        class: ClassNo,
-        state: StateNo,
-        symbol: u16,
-        reached: StateNo,
-    ) -> Option<ClassNo>
+    fn next(&mut self, class: ClassNo, push: Push) -> Option<ClassNo>
         requires { ready self.old }
         ensures kind { kind self.new ≡ kind self.old }
         ensures ready { ready self.new }
-        ensures taken { Taken (room (kind self.old)) (held self.old) (pushed (meaning (kind self.old)) state.0 symbol reached.0) class.0 result (held self.new) };
+        ensures taken { Taken (room (kind self.old)) (held self.old) (after_push (meaning (kind self.old)) push) class.0 result (held self.new) };
 
     /// no class has two numbers
     ghost distinct: { (s : Self) → ready s → Distinct (held s) };

@@ -5,40 +5,47 @@ use policies::both::Both;
 use policies::last::{Depth, Last};
 use policy::one_class::OneClass;
 use policy::path::Path;
-use policy::stacks::Policy;
+use policy::stacks::{Policy, Push};
 use table::numbers::{ClassNo, StateNo};
 
-/// Which of the two states of a push tells the classes apart.
-#[derive(Clone, Copy)]
-enum Apart {
-    Left,
-    Reached,
+/// The push that leaves the state of number `n`.
+fn leaving(n: u16) -> Push {
+    Push {
+        left: StateNo(n),
+        symbol: 0,
+        reached: StateNo(0),
+    }
+}
+
+/// The push that reaches the state of number `n`.
+fn reaching(n: u16) -> Push {
+    Push {
+        left: StateNo(0),
+        symbol: 0,
+        reached: StateNo(n),
+    }
 }
 
 /// Takes the classes after the empty stack's class until one has no place; how many were given.
-fn fill<P: Policy>(policy: &mut P, apart: Apart) -> usize
+fn fill<P: Policy, F: Fn(u16) -> Push>(policy: &mut P, push_of: F) -> usize
+    requires { F.IsAlwaysCallable push_of }
     ensures { P.Policy.ready policy.new }
 {
     policy.clear();
-    let mut given = 0;
-    for n in 1..5000u16 {
-        if push(policy, apart, n).is_none() {
+    for (given, n) in (1..5000u16).enumerate() {
+        if take(policy, push_of(n)).is_none() {
             return given;
         }
-        given += 1;
     }
-    given
+    4999
 }
 
-/// The class after the empty stack's class, where the state of number `n` is left or reached.
-fn push<P: Policy>(policy: &mut P, apart: Apart, n: u16) -> Option<ClassNo>
+/// The class after the empty stack's class.
+fn take<P: Policy>(policy: &mut P, push: Push) -> Option<ClassNo>
     requires { P.Policy.ready policy.old }
     ensures { P.Policy.ready policy.new }
 {
-    match apart {
-        Apart::Left => policy.next(ClassNo(0), StateNo(n), 0, StateNo(0)),
-        Apart::Reached => policy.next(ClassNo(0), StateNo(0), 0, StateNo(n)),
-    }
+    policy.next(ClassNo(0), push)
 }
 
 #[cfg(test)]
@@ -48,30 +55,30 @@ mod tests {
     #[test]
     fn path_is_full(rt: HostRuntime) {
         let mut path = Path::new();
-        assert_eq!(rt; fill(&mut path, Apart::Reached), 4095);
-        assert!(rt; push(&mut path, Apart::Reached, 4999).is_none());
-        assert!(rt; push(&mut path, Apart::Reached, 7).is_some());
+        assert_eq!(rt; fill(&mut path, reaching), 4095);
+        assert!(rt; take(&mut path, reaching(4999)).is_none());
+        assert!(rt; take(&mut path, reaching(7)).is_some());
     }
 
     #[test]
     fn last_is_full(rt: HostRuntime) {
         let mut last = Last::new(Depth::One);
-        assert_eq!(rt; fill(&mut last, Apart::Left), 4095);
-        assert!(rt; push(&mut last, Apart::Left, 4999).is_none());
-        assert!(rt; push(&mut last, Apart::Left, 7).is_some());
+        assert_eq!(rt; fill(&mut last, leaving), 4095);
+        assert!(rt; take(&mut last, leaving(4999)).is_none());
+        assert!(rt; take(&mut last, leaving(7)).is_some());
     }
 
     #[test]
     fn both_is_full(rt: HostRuntime) {
         let mut both = Both::new(Path::new(), OneClass);
-        assert_eq!(rt; fill(&mut both, Apart::Reached), 4095);
-        assert!(rt; push(&mut both, Apart::Reached, 4999).is_none());
-        assert!(rt; push(&mut both, Apart::Reached, 7).is_some());
+        assert_eq!(rt; fill(&mut both, reaching), 4095);
+        assert!(rt; take(&mut both, reaching(4999)).is_none());
+        assert!(rt; take(&mut both, reaching(7)).is_some());
     }
 
     #[test]
     fn one_class_has_one(rt: HostRuntime) {
         let mut one = OneClass;
-        assert_eq!(rt; fill(&mut one, Apart::Reached), 4999);
+        assert_eq!(rt; fill(&mut one, reaching), 4999);
     }
 }

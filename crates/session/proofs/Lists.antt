@@ -1,9 +1,8 @@
 -- Lists that are changed place by place, seen through a function.
-use Rattle.std.proofs.Common.{◌≡◌, ℕ, zero, suc, ◌-◌, ◌<◌, ◌≤◌, min, List, [], ◌∷◌, ◌++◌, map, length, get_or, take, drop, set, sym, refl, ap, ◌∙◌, ⊎_elim, arith}
+use Rattle.std.proofs.Common.{◌≡◌, ℕ, zero, suc, ◌<◌, ◌≤◌, min, List, [], ◌∷◌, ◌++◌, map, length, get_or, take, drop, set, sym, refl, ap, ◌∙◌, ⊎_elim, arith}
 use mathlib.Core.Option.{none, some}
-use native.Mathlib.Nat.{sub-zero}
-use lib.ListN.{get_elem?, length-map}
-use Rattle.std.proofs.lemmas.List.{take_all, length-take}
+use lib.ListN.{get_elem?}
+use Rattle.std.proofs.lemmas.List.{take_all}
 use Rattle.std.proofs.lemmas.Bool.{cases_lt}
 
 -- one element more is changed
@@ -33,12 +32,6 @@ set_taken f (suc n) [] i v = refl
 set_taken f (suc n) (x ∷ xs) zero v = refl
 set_taken f (suc n) (x ∷ xs) (suc i) v = ap (λ ys. f x ∷ ys) (set_taken f n xs i v)
 
--- the element after the first n is set, and then there are n + 1
-pub set_next : {A B : Type 0} (f : A → B) (n : ℕ) (xs : List A) (v : A) → n < length xs → map f (take (suc n) (set xs n v)) ≡ map f (take n xs) ++ (f v ∷ [])
-set_next f n [] v l = absurd (omega arith)
-set_next f zero (x ∷ xs) v l = refl
-set_next f (suc n) (x ∷ xs) v l = ap (λ ys. f x ∷ ys) (set_next f n xs v (omega arith))
-
 -- what stands among the first n, and that nothing stands past them
 pub got : {A B : Type 0} (f : A → B) (n : ℕ) (xs : List A) (i : ℕ) (d : A) → i < n → i < length xs → get_elem? (map f (take n xs)) i ≡ some (f (get_or xs i d))
 got f zero xs i d l k = absurd (omega arith)
@@ -59,10 +52,6 @@ not_there f (suc n) (x ∷ xs) zero l = absurd (omega arith)
 not_there f (suc n) (x ∷ xs) (suc i) l = not_there f n xs i (omega arith)
 
 -- as many of the first n as there are
-pub take_min : {A : Type 0} (xs : List A) (n k : ℕ) → k ≡ min n (length xs) → take (k - 0) xs ≡ take n xs
+pub take_min : {A : Type 0} (xs : List A) (n k : ℕ) → k ≡ min n (length xs) → take k xs ≡ take n xs
 take_min xs n k e =
-    ap (λ j. take j xs) (sub-zero k)
-    ∙ ⊎_elim (λ l. ap (λ j. take j xs) (let q : k ≡ n = omega arith in q)) (λ l. take_all k xs (omega arith) ∙ sym (take_all n xs (omega arith))) (cases_lt n (length xs))
-
-pub count_taken : {A B : Type 0} (f : A → B) (n : ℕ) (xs : List A) → length (map f (take n xs)) ≡ min n (length xs)
-count_taken f n xs = length-map (take n xs) f ∙ length-take n xs
+    ⊎_elim (λ l. ap (λ j. take j xs) (let q : k ≡ n = omega arith in q)) (λ l. take_all k xs (omega arith) ∙ sym (take_all n xs (omega arith))) (cases_lt n (length xs))

@@ -8,12 +8,11 @@ use Rattle.promise.specs.Acceptors.{Kind, Automaton, IsFileOf}
 use Rattle.promise.specs.Acceptors.Kind.{pga, pgd}
 use Rattle.promise.specs.Acceptors.Automaton.{flat, subset}
 use Rattle.promise.specs.Acceptors.IsFileOf.{is_pga, is_pgd}
-use Rattle.promise.specs.States.{State, file, slot_of}
+use Rattle.promise.specs.States.{State, file, slot_of, with_turn}
 use Rattle.promise.specs.Calls.Call.{open_file}
 use Rattle.promise.specs.Calls.Answer.{turn_number}
 use Rattle.promise.specs.Steps.Step.{opened}
 use Rattle.session.specs.Answering.{Answered}
-use Rattle.session.specs.Opening.{TurnAdded}
 use Rattle.session.proofs.Answering.{answers}
 
 -- bytes that are a file of one kind or the other
@@ -23,8 +22,6 @@ pga_file f e k = (flat f, is_pga (subst (λ b. IsPga b f) e k))
 pub pgd_file : {bytes used : List ℕ} (d : Determined) → bytes ≡ used → IsPgd bytes d → (a : Automaton) × IsFileOf pgd used a
 pgd_file d e k = (subset d, is_pgd (subst (λ b. IsPgd b d) e k))
 
-pub open_answers : (k j : Kind) (s s' : State) (n : ℕ) → k ≡ j → (a : Automaton) × IsFileOf k (file (slot_of s k)) a → length s.turns < s.places → TurnAdded j s n s'
-    → Answered s (open_file k) (turn_number n) s'
-open_answers k j s s' n e f l t =
-    let t = subst (λ z. TurnAdded z s n s') (sym e) t in
-    subst (λ m. Answered s (open_file k) (turn_number m) s') (sym t.number) (answers (λ i. opened f.0 f.1 l t.is))
+pub open_answers : (k : Kind) (s s' : State) (n : ℕ) → (a : Automaton) × IsFileOf k (file (slot_of s k)) a → length s.turns < s.places → n ≡ length s.turns
+    → s' ≡ with_turn k s → Answered s (open_file k) (turn_number n) s'
+open_answers k s s' n f l e is = subst (λ m. Answered s (open_file k) (turn_number m) s') (sym e) (answers (λ i. opened f.0 f.1 l is))

@@ -21,11 +21,12 @@ use Rattle.session.specs.declared.record.Standing.{Standing}
 use Rattle.session.specs.declared.record.Turn.{Turn as Record}
 use Rattle.session.specs.View.{stands_on, stands_at, turn_of}
 use Rattle.session.specs.Answering.{Answered}
-use Rattle.session.specs.Hearing.{in_use, Hears, Refuses, HeardSo, call_of, told_answer}
+use Rattle.session.specs.Turns.{in_use}
+use Rattle.session.specs.Hearing.{Hears, Refuses, HeardSo, call_of, told_answer}
 use Rattle.session.specs.Hearing.Hears.{begins, takes, judges}
 use Rattle.session.specs.Hearing.Refuses.{no_word, no_end, unknown}
 use Rattle.session.proofs.Answering.{answers}
-use Rattle.session.proofs.Lists.{set_taken, count_taken}
+use Rattle.session.proofs.Lists.{set_taken}
 
 -- ── a turn by its number ──
 
@@ -72,8 +73,8 @@ module _ (s : State) (i : ℕ) (u : Turn) (a : Automaton) (in-it : InUse s i u a
   refused_step p (unknown {p = at} l) q = word_unknown u a at in-it p l q
 
 -- a turn in use is told of an event: it is in the rows, and stands where the event leads
-pub row_there : (n : ℕ) (rows : List Record) (i : ℕ) (u : Turn) → get_elem? (map turn_of (take n rows)) i ≡ some u → i < length rows
-row_there n rows i u e = let l = stands_below (map turn_of (take n rows)) i u e in let k = count_taken turn_of n rows in omega arith
+pub turn_there : (turns : List Turn) (i : ℕ) (u : Turn) → get_elem? turns i ≡ some u → i < length turns
+turn_there = stands_below
 
 pub told_step : (s s' : State) (i : ℕ) (at after : Standing) (e : Event) (t : Told) → get_elem? s.turns i ≡ some (in_use at) → HeardSo s at e t after
     → s' ≡ record { book = s.book; pga = s.pga; pgd = s.pgd; turns = set s.turns i (in_use after); places = s.places } → Answered s (call_of i e) (told_answer t) s'

@@ -1,7 +1,6 @@
 -- What is told of an event to a turn, and where the turn stands then.
-use Rattle.std.specs.Prelude.{◌≡◌, ℕ, ◌<◌, ◌≤◌, Bool, true, Some, None, Ok, Err, Option as Maybe, Result}
+use Rattle.std.specs.Prelude.{◌≡◌, ℕ, ◌<◌, ◌≤◌, Bool, Ok, Err, Result}
 use Rattle.std.proofs.Math.Option.{Option, none, some}
-use Rattle.std.proofs.Math.ListN.{get_elem?}
 use Rattle.acceptor.specs.declared.fault.TurnFault.{TurnFault}
 use Rattle.acceptor.specs.declared.fault.TurnFault.TheVariants.{Unbegun, UnknownWord}
 use Rattle.acceptor.specs.declared.turn.Event.{Event}
@@ -10,24 +9,14 @@ use Rattle.acceptor.specs.declared.turn.Told.{Told}
 use Rattle.acceptor.specs.declared.turn.Told.TheVariants.{Begun, Taken, Judged}
 use Rattle.promise.specs.Acceptors.{Automaton, words_of, IsFileOf}
 use Rattle.promise.specs.Positions.{Position, first_position, next_position, says_yes}
-use Rattle.promise.specs.States.{Turn, State, file, slot_of}
+use Rattle.promise.specs.States.{State, file, slot_of}
 use Rattle.promise.specs.Calls.{Call, Answer}
 use Rattle.promise.specs.Calls.Call.{begin, word, end}
 use Rattle.promise.specs.Calls.Answer.{done, told}
-use Rattle.promise.specs.Steps.{OutOfUse}
 use Rattle.session.specs.declared.fault.SessionFault.{SessionFault}
 use Rattle.session.specs.declared.record.Standing.{Standing}
 use Rattle.session.specs.View.{stands_on, stands_at}
 use Rattle.session.specs.Opening.{fault_answer}
-
--- a turn that stands here, in use
-abbrev pub in_use : Standing → Turn
-in_use at = record { kind = stands_on at; live = true; at = stands_at at }
-
--- the turn of number i is in use and stands here, or it is not there or no longer in use
-abbrev pub FoundTurn : State → ℕ → Maybe Standing → Type 0
-FoundTurn s i None = OutOfUse s i
-FoundTurn s i (Some at) = get_elem? s.turns i ≡ some (in_use at)
 
 -- on the acceptor a: from a position, or unbegun, the event is told of so, and leads here
 pub data Hears (a : Automaton) : Option Position → Event → Told → Option Position → Type 0 where

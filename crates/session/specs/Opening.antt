@@ -1,12 +1,12 @@
 -- What opening and determinising answer, and what they check.
-use Rattle.std.specs.Prelude.{◌≡◌, ℕ, length, Ok, Err, Result}
+use Rattle.std.specs.Prelude.{ℕ, Ok, Err, Result}
 use Rattle.fields.specs.declared.fault.AcceptorFault.{AcceptorFault}
 use Rattle.fields.specs.Refusals.{refusal as file_refusal}
 use Rattle.acceptor.specs.Refusals.{refusal as turn_refusal}
 use Rattle.determinising.specs.declared.fault.SubsetCounts.{SubsetCounts}
 use Rattle.determinising.specs.Refusals.{refusal as determinise_refusal}
 use Rattle.promise.specs.Acceptors.{Kind, Automaton, IsFileOf, NoFile}
-use Rattle.promise.specs.States.{State, file, slot_of, with_turn}
+use Rattle.promise.specs.States.{State, file, slot_of}
 use Rattle.promise.specs.Calls.{Answer}
 use Rattle.promise.specs.Calls.Answer.{turn_number, subset_counts, refused, unusable, turns_full}
 use Rattle.session.specs.declared.fault.SessionFault.{SessionFault}
@@ -32,8 +32,3 @@ determinised_answer (Err f) = fault_answer f
 abbrev pub CheckedFile : {T : Type 0} → Kind → State → Result T AcceptorFault → Type 0
 CheckedFile k s (Ok v) = (a : Automaton) × IsFileOf k (file (slot_of s k)) a
 CheckedFile k s (Err f) = NoFile k (file (slot_of s k)) (file_refusal f)
-
--- the file of the kind is open, with one more turn, whose number is n
-pub record TurnAdded (k : Kind) (s : State) (n : ℕ) (s' : State) : Type 0 where
-  pub number : n ≡ length s.turns
-  pub is : s' ≡ with_turn k s

@@ -7,7 +7,7 @@ use determinising::fault::DeterminiseFault;
 use fields::fault::AcceptorFault;
 
 /// Why open, determinise, begin, word or end is not done.
-#[derive(Clone, Copy)]
+#[derive(Clone, Copy, PartialEq, Eq, Debug)]
 pub enum SessionFault {
     /// the bytes are no file of the kind
     File(AcceptorFault),

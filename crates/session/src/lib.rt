@@ -4,6 +4,8 @@
 //! that the book derives is lost, linear books are exact, and a finer policy passes no more.
 #![tactic(auto)]
 
+mod buffer;
 pub mod fault;
 pub mod record;
 pub mod session;
+mod turns;

@@ -23,7 +23,20 @@ pub enum Standing {
     Subset(Condition<Option<StateNo>>),
 }
 
+impl Standing {
+    /// The kind of the file.
+    fn kind(self) -> Kind
+        ensures { kind_of result ≡ stands_on self }
+    {
+        match self {
+            Standing::Flat(_) => Kind::Pga,
+            Standing::Subset(_) => Kind::Pgd,
+        }
+    }
+}
+
 /// A turn, as a row of the lent table of turns.
+// A flag beside the place, and no `Option`: a turn out of use still stands where it stood.
 #[derive(Clone, Copy)]
 pub struct Turn {
     live: bool,
@@ -35,16 +48,11 @@ impl Turn {
     pub fn unbegun(kind: Kind) -> Turn
         ensures { turn_of result ≡ Rattle.promise.specs.States.unbegun (kind_of kind) }
     {
-        match kind {
-            Kind::Pga => Turn {
-                live: true,
-                at: Standing::Flat(Condition::Unbegun),
-            },
-            Kind::Pgd => Turn {
-                live: true,
-                at: Standing::Subset(Condition::Unbegun),
-            },
-        }
+        let at = match kind {
+            Kind::Pga => Standing::Flat(Condition::Unbegun),
+            Kind::Pgd => Standing::Subset(Condition::Unbegun),
+        };
+        Turn::standing_at(at)
     }
 
     /// A turn in use that stands here.
@@ -73,17 +81,9 @@ impl Turn {
     fn retired(self, kind: Kind) -> Turn
         ensures { turn_of result ≡ retired_of (kind_of kind) (turn_of self) }
     {
-        match (self.at, kind) {
-            (Standing::Flat(_), Kind::Pga) => Turn {
-                live: false,
-                at: self.at,
-            },
-            (Standing::Subset(_), Kind::Pgd) => Turn {
-                live: false,
-                at: self.at,
-            },
-            (Standing::Flat(_), Kind::Pgd) => self,
-            (Standing::Subset(_), Kind::Pga) => self,
+        Turn {
+            live: self.is_live() && self.standing().kind() != kind,
+            ..self
         }
     }
 }

@@ -1,14 +1,16 @@
 //! The session and its calls.
-ghost use Rattle.std.specs.Prelude.{◌≡◌, ◌<◌, length, take, IfOk};
+ghost use Rattle.std.specs.Prelude.{◌≡◌, length, IfOk};
 ghost use Rattle.promise.specs.Calls.{add_answer, compile_answer};
 ghost use Rattle.promise.specs.Calls.Call.{add as add_call, compile as compile_call, open_file, determinise as determinise_call, begin as begin_call, word as word_call, end as end_call};
-ghost use Rattle.session.specs.View.{kind_of, view, unstarted, Started, TakenFor};
-ghost use Rattle.session.specs.Opening.{CheckedFile, TurnAdded, open_answer, determinised_answer};
+ghost use Rattle.session.specs.View.{kind_of, view, unstarted, Started, with_opening, TakenFor};
+ghost use Rattle.session.specs.Opening.{CheckedFile, open_answer, determinised_answer};
 ghost use Rattle.session.specs.Answering.{Answered};
-ghost use Rattle.session.specs.Hearing.{FoundTurn, OfEvent, Heard, call_of, event_answer, done_answer, end_answer};
+ghost use Rattle.session.specs.Hearing.{OfEvent, Heard, call_of, event_answer, done_answer, end_answer};
 
+use crate::buffer::Buffer;
 use crate::fault::SessionFault;
-use crate::record::{Kind, Standing, Turn, retire};
+use crate::record::{Kind, Standing, Turn};
+use crate::turns::Turns;
 use acceptor::fault::TurnFault;
 use acceptor::flat::Flat;
 use acceptor::subset::Subset;
@@ -19,35 +21,25 @@ use compiler::fault::CompileFault;
 use determinising::determinise::determinise as determinise_file;
 use determinising::fault::SubsetCounts;
 use fields::fault::AcceptorFault;
+use fields::format::ARC_SIZE;
 use finding::moves::Move;
 use pga::check::check_file as check_pga;
+use pga::format::{ARCS_AT, JUMP_SIZE};
 use pga::listing::Counts;
 use pgd::check::check_file as check_pgd;
+use pgd::format::FINALS_AT;
 use policy::stacks::Policy;
 use std::mem;
 use table::numbers::StateNo;
 use table::sets::NodeSet;
 
-/// The first bytes of a buffer, as many as are used.
-fn front<'a>(bytes: &'a [u8], used: usize) -> &'a [u8]
-    ensures { result.now ≡ take used bytes.now }
-{
-    let end = used.min(bytes.len());
-    &bytes[0..end]
-}
-
 /// A book table, the buffers of the two files, and the table of turns, all lent: how much of each is in use, and which files are open.
 #[derive(Drop)]
 pub struct Session<'book, 'pga, 'pgd, 'turns> {
     book: &'book mut [u16],
-    pga: &'pga mut [u8],
-    pga_used: usize,
-    pga_open: bool,
-    pgd: &'pgd mut [u8],
-    pgd_used: usize,
-    pgd_open: bool,
-    turns: &'turns mut [Turn],
-    count: usize,
+    pga: Buffer<'pga>,
+    pgd: Buffer<'pgd>,
+    turns: Turns<'turns>,
 }
 
 impl<'book, 'pga, 'pgd, 'turns> Session<'book, 'pga, 'pgd, 'turns> {
@@ -62,14 +54,9 @@ impl<'book, 'pga, 'pgd, 'turns> Session<'book, 'pga, 'pgd, 'turns> {
     {
         Session {
             book,
-            pga,
-            pga_used: 0,
-            pga_open: false,
-            pgd,
-            pgd_used: 0,
-            pgd_open: false,
-            turns,
-            count: 0,
+            pga: Buffer::over(pga),
+            pgd: Buffer::over(pgd),
+            turns: Turns::over(turns),
         }
     }
 
@@ -78,11 +65,9 @@ impl<'book, 'pga, 'pgd, 'turns> Session<'book, 'pga, 'pgd, 'turns> {
         ensures { Started words names start (view self.old) result (view self.new) }
     {
         let used = blank_table(self.book, words, names, start)?;
-        self.pga_used = 0;
-        self.pga_open = false;
-        self.pgd_used = 0;
-        self.pgd_open = false;
-        self.count = 0;
+        self.pga.clear();
+        self.pgd.clear();
+        self.turns.clear();
         Ok(used)
     }
 
@@ -93,20 +78,24 @@ impl<'book, 'pga, 'pgd, 'turns> Session<'book, 'pga, 'pgd, 'turns> {
         add_rule(self.book, left, right)
     }
 
-    /// Takes the PGA for writing: its turns go out of use, and its opening ends.
-    fn take_pga(&mut self)
-        ensures { TakenFor (kind_of Kind.Pga) (view self.old) (view self.new) }
+    // An arm for each kind: the two buffers are lent for lifetimes of their own, and each kind has its own check.
+
+    /// The file of a kind is now open, or no longer.
+    fn set_open(&mut self, kind: Kind, is_open: bool)
+        ensures { view self.new ≡ with_opening (kind_of kind) is_open (view self.old) }
     {
-        retire(self.turns, Kind::Pga);
-        self.pga_open = false;
+        match kind {
+            Kind::Pga => self.pga.open = is_open,
+            Kind::Pgd => self.pgd.open = is_open,
+        }
     }
 
-    /// Takes the PGD for writing: its turns go out of use, and its opening ends.
-    fn take_pgd(&mut self)
-        ensures { TakenFor (kind_of Kind.Pgd) (view self.old) (view self.new) }
+    /// Takes the file of a kind for writing: its turns go out of use, and its opening ends.
+    fn take(&mut self, kind: Kind)
+        ensures { TakenFor (kind_of kind) (view self.old) (view self.new) }
     {
-        retire(self.turns, Kind::Pgd);
-        self.pgd_open = false;
+        self.turns.retire(kind);
+        self.set_open(kind, false);
     }
 
     /// Compiles the book under the policy into the PGA; how large its parts are.
@@ -126,28 +115,13 @@ impl<'book, 'pga, 'pgd, 'turns> Session<'book, 'pga, 'pgd, 'turns> {
             }))
             (compile_answer result) (view self.new) }
     {
-        self.take_pga();
-        let Workspace {
-            states,
-            moves,
-            nodes,
-            unfolded,
-            jumps,
-        } = work;
-        let work = Workspace {
-            states,
-            moves,
-            nodes,
-            unfolded,
-            jumps,
-        };
+        self.take(Kind::Pga);
+        // Taken out for the call: no rule of proof lends the book while another field behind the session is lent too.
         let book = mem::replace(&mut self.book, &mut []);
-        let pga = mem::replace(&mut self.pga, &mut []);
-        let answer = compile_book(book, policy, work, pga);
+        let answer = compile_book(book, policy, work, self.pga.bytes);
         self.book = book;
-        self.pga = pga;
         let counts = answer?;
-        self.pga_used = 15 + 6 * counts.arcs + 4 * counts.jumps;
+        self.pga.used = ARCS_AT + ARC_SIZE * counts.arcs + JUMP_SIZE * counts.jumps;
         Ok(counts)
     }
 
@@ -157,37 +131,13 @@ impl<'book, 'pga, 'pgd, 'turns> Session<'book, 'pga, 'pgd, 'turns> {
     {
         match kind {
             Kind::Pga => {
-                check_pga(front(self.pga, self.pga_used))?;
+                check_pga(self.pga.file())?;
             }
             Kind::Pgd => {
-                check_pgd(front(self.pgd, self.pgd_used))?;
+                check_pgd(self.pgd.file())?;
             }
         }
         Ok(())
-    }
-
-    /// Opens the PGA, with one more turn on it; the turn's number.
-    fn open_pga(&mut self) -> usize
-        requires { self.old.count < length self.old.turns.now }
-        ensures { TurnAdded (kind_of Kind.Pga) (view self.old) result (view self.new) }
-    {
-        let number = self.count;
-        self.turns[number] = Turn::unbegun(Kind::Pga);
-        self.pga_open = true;
-        self.count = number + 1;
-        number
-    }
-
-    /// Opens the PGD, with one more turn on it; the turn's number.
-    fn open_pgd(&mut self) -> usize
-        requires { self.old.count < length self.old.turns.now }
-        ensures { TurnAdded (kind_of Kind.Pgd) (view self.old) result (view self.new) }
-    {
-        let number = self.count;
-        self.turns[number] = Turn::unbegun(Kind::Pgd);
-        self.pgd_open = true;
-        self.count = number + 1;
-        number
     }
 
     /// Checks the file of a kind and opens it, with one more turn on it, unbegun; the turn's number.
@@ -195,13 +145,11 @@ impl<'book, 'pga, 'pgd, 'turns> Session<'book, 'pga, 'pgd, 'turns> {
         ensures { Answered (view self.old) (open_file (kind_of kind)) (open_answer result) (view self.new) }
     {
         self.check(kind)?;
-        if self.count >= self.turns.len() {
+        let Some(number) = self.turns.add(Turn::unbegun(kind)) else {
             return Err(SessionFault::TurnsFull);
-        }
-        match kind {
-            Kind::Pga => Ok(self.open_pga()),
-            Kind::Pgd => Ok(self.open_pgd()),
-        }
+        };
+        self.set_open(kind, true);
+        Ok(number)
     }
 
     /// Determinises the open PGA into the PGD; how many states and arcs it has.
@@ -214,53 +162,34 @@ impl<'book, 'pga, 'pgd, 'turns> Session<'book, 'pga, 'pgd, 'turns> {
             (determinise_call (record { rows = length rows.old; arcs = length arcs.old }))
             (determinised_answer result) (view self.new) }
     {
-        if !self.pga_open {
+        if !self.pga.open {
             return Err(SessionFault::Unusable);
         }
-        self.take_pgd();
-        let used = self.pga_used;
-        let pga = mem::replace(&mut self.pga, &mut []);
-        let pgd = mem::replace(&mut self.pgd, &mut []);
-        let answer = determinise_file(front(pga, used), rows, arcs, pgd);
-        self.pga = pga;
-        self.pgd = pgd;
+        self.take(Kind::Pgd);
+        // Taken out for the call, as in `compile`.
+        let out = mem::replace(&mut self.pgd.bytes, &mut []);
+        let answer = determinise_file(self.pga.file(), rows, arcs, out);
+        self.pgd.bytes = out;
         let counts = answer?;
-        self.pgd_used = 11 + counts.states + 6 * counts.arcs;
+        self.pgd.used = FINALS_AT + counts.states + ARC_SIZE * counts.arcs;
         Ok(counts)
     }
 
-    /// Where the turn of a number stands, if it is there and in use.
-    fn find(&self, number: usize) -> Option<Standing>
-        ensures { FoundTurn (view self.now) number result }
-    {
-        if number >= self.count {
-            return None;
-        }
-        if number >= self.turns.len() {
-            return None;
-        }
-        let turn = self.turns[number];
-        if turn.is_live() {
-            Some(turn.standing())
-        } else {
-            None
-        }
-    }
-
     /// What is told of an event to a turn that stands here, and where the turn stands then.
+    // An arm for each kind: file and position have types of their own, so only `tell` can be shared.
     fn hear(&self, at: Standing, event: Event) -> Result<(Told, Standing), TurnFault>
         ensures { Heard (view self.now) at event result }
     {
         match at {
             Standing::Flat(condition) => {
                 let mut turn = condition;
-                let flat = Flat::read(front(self.pga, self.pga_used));
+                let flat = Flat::read(self.pga.file());
                 let told = tell(&flat, &mut turn, event)?;
                 Ok((told, Standing::Flat(turn)))
             }
             Standing::Subset(condition) => {
                 let mut turn = condition;
-                let subset = Subset::read(front(self.pgd, self.pgd_used));
+                let subset = Subset::read(self.pgd.file());
                 let told = tell(&subset, &mut turn, event)?;
                 Ok((told, Standing::Subset(turn)))
             }
@@ -272,11 +201,11 @@ impl<'book, 'pga, 'pgd, 'turns> Session<'book, 'pga, 'pgd, 'turns> {
         ensures answered { Answered (view self.old) (call_of number event) (event_answer result) (view self.new) }
         ensures told { IfOk result (λ t. OfEvent event t) }
     {
-        let Some(at) = self.find(number) else {
+        let Some(at) = self.turns.find(number) else {
             return Err(SessionFault::Unusable);
         };
         let (told, after) = self.hear(at, event)?;
-        self.turns[number] = Turn::standing_at(after);
+        self.turns.stand(number, after);
         Ok(told)
     }
 
@@ -300,9 +229,9 @@ impl<'book, 'pga, 'pgd, 'turns> Session<'book, 'pga, 'pgd, 'turns> {
     pub fn end(&mut self, turn: usize) -> Result<bool, SessionFault>
         ensures { Answered (view self.old) (end_call turn) (end_answer result) (view self.new) }
     {
-        match self.tell_turn(turn, Event::End)? {
-            Told::Judged(verdict) => Ok(verdict),
-            Told::Begun | Told::Taken => unreachable(),
-        }
+        let Told::Judged(verdict) = self.tell_turn(turn, Event::End)? else {
+            unreachable!()
+        };
+        Ok(verdict)
     }
 }

@@ -3,15 +3,11 @@
 #![tactic(auto)]
 
 use book::{Refusal, load};
-use compiler::compile::{Workspace, compile_book};
-use finding::moves::Move;
-use flattening::jump::Jump;
+use compiler::compile::compile_book;
+use compiler::tables::Tables;
 use pga::listing::{Counts, list};
 use policy::path::Path;
 use std::io::{Read, Write};
-use table::numbers::{ClassNo, NodeNo, StateNo};
-use table::sets::ItemSet;
-use unfolding::node::Node;
 
 /// Room for the entries of every book.
 const ENTRIES: usize = 8192;
@@ -28,56 +24,24 @@ const FILE: usize = 15 + 6 * MOVES + 4 * MOVES;
 /// Room for the text of any such acceptor.
 const TEXT: usize = 32768;
 
-/// Compiles the book in lent tables of the stated sizes.
+/// Compiles the book in tables of the stated sizes.
 fn compile_path(book: &[u16], out: &mut [u8]) -> Result<Counts, Refusal> {
-    let mut states = [ItemSet::empty(); STATES];
-    let mut moves = [Move {
-        from: StateNo(0),
-        symbol: 0,
-        to: StateNo(0),
-    }; MOVES];
-    let mut nodes = [Node {
-        state: StateNo(0),
-        class: ClassNo(0),
-    }; NODES];
-    let mut unfolded = [Move {
-        from: NodeNo(0),
-        symbol: 0,
-        to: NodeNo(0),
-    }; MOVES];
-    let mut jumps = [Jump {
-        from: NodeNo(0),
-        to: NodeNo(0),
-    }; MOVES];
-    let work = Workspace {
-        states: &mut states,
-        moves: &mut moves,
-        nodes: &mut nodes,
-        unfolded: &mut unfolded,
-        jumps: &mut jumps,
-    };
-    let mut policy = Path::new();
-    match compile_book(book, &mut policy, work, out) {
-        Ok(counts) => Ok(counts),
-        Err(fault) => Err(fault.refusal()),
-    }
+    let mut tables = Tables::<STATES, MOVES, NODES, MOVES>::new();
+    let counts = compile_book(book, &mut Path::new(), tables.lend(), out)?;
+    Ok(counts)
 }
 
 /// Writes the text for a book file; its length, or the refusal.
 fn show_file(input: &[u8], text: &mut [u8]) -> Result<usize, Refusal> {
     let mut book = [0; ENTRIES];
-    if let Err(fault) = load(input, &mut book) {
-        return Err(fault.refusal());
-    }
+    load(input, &mut book)?;
     let mut file = [0; FILE];
     let counts = compile_path(&book, &mut file)?;
     let arcs = counts.arcs.min(MOVES);
     let jumps = counts.jumps.min(MOVES);
     let end = 15 + 6 * arcs + 4 * jumps;
-    match list(counts, &file[0..end], text) {
-        Ok(used) => Ok(used),
-        Err(fault) => Err(fault.refusal()),
-    }
+    let used = list(counts, &file[..end], text)?;
+    Ok(used)
 }
 
 fn main(rt: HostRuntime) -> anyhow::Result<()> {
@@ -87,7 +51,7 @@ fn main(rt: HostRuntime) -> anyhow::Result<()> {
     match show_file(&input, &mut text) {
         Ok(used) => {
             let used = used.min(TEXT);
-            rt.stdout().write_all(&text[0..used])?;
+            rt.stdout().write_all(&text[..used])?;
         }
         Err(refusal) => println!(rt; "{refusal}")?,
     }

@@ -3,4 +3,5 @@ pub mod Orders
 pub mod Found
 pub mod Bits
 pub mod Rows
+pub mod Members
 pub mod Same

@@ -10,7 +10,7 @@ use Rattle.table.specs.Lists.{StandsAt, Lacks, Distinct}
 -- ---- what stands where
 
 pub stands_below : {A : Type 0} (ts : List A) (k : ℕ) (t : A) → StandsAt ts k t → k < length ts
-stands_below [] k t h = let z : ◌≡◌ {A = ℕ} 0 1 = cc in absurd (omega arith)
+stands_below [] k t h = absurd cc
 stands_below (u ∷ ts) zero t h = omega arith
 stands_below (u ∷ ts) (suc k) t h = let r = stands_below ts k t h in omega arith
 
@@ -25,7 +25,7 @@ stands_getD (t ∷ ts) zero d h = refl
 stands_getD (t ∷ ts) (suc k) d h = stands_getD ts k d (omega arith)
 
 pub stands_is : {A : Type 0} (ts : List A) (k : ℕ) (t d : A) → StandsAt ts k t → get_or ts k d ≡ t
-stands_is [] k t d h = let z : ◌≡◌ {A = ℕ} 0 1 = cc in absurd (omega arith)
+stands_is [] k t d h = absurd cc
 stands_is (u ∷ ts) zero t d h = cc
 stands_is (u ∷ ts) (suc k) t d h = stands_is ts k t d h
 
@@ -37,17 +37,17 @@ stands_past [] = refl
 stands_past (t ∷ ts) = stands_past ts
 
 pub stands_map : {A B : Type 0} (f : A → B) (ts : List A) (k : ℕ) (t : A) → StandsAt ts k t → StandsAt (map f ts) k (f t)
-stands_map f [] k t h = let z : ◌≡◌ {A = ℕ} 0 1 = cc in absurd (omega arith)
+stands_map f [] k t h = absurd cc
 stands_map f (u ∷ ts) zero t h = let e : u ≡ t = cc in ap (λ v. some (f v)) e
 stands_map f (u ∷ ts) (suc k) t h = stands_map f ts k t h
 
 pub stands_unmap : {A B : Type 0} (f : A → B) (ts : List A) (k : ℕ) (u : B) → StandsAt (map f ts) k u → (t : A) × StandsAt ts k t × (f t ≡ u)
-stands_unmap f [] k u h = let z : ◌≡◌ {A = ℕ} 0 1 = cc in absurd (omega arith)
+stands_unmap f [] k u h = absurd cc
 stands_unmap f (t ∷ ts) zero u h = (t, refl, cc)
 stands_unmap f (t ∷ ts) (suc k) u h = stands_unmap f ts k u h
 
 pub stands_left : {A : Type 0} (ts us : List A) (t : A) (k : ℕ) → StandsAt ts k t → StandsAt (ts ++ us) k t
-stands_left [] us t k h = let z : ◌≡◌ {A = ℕ} 0 1 = cc in absurd (omega arith)
+stands_left [] us t k h = absurd cc
 stands_left (v ∷ ts) us t zero h = h
 stands_left (v ∷ ts) us t (suc k) h = stands_left ts us t k h
 
@@ -57,7 +57,7 @@ stands_last (v ∷ ts) us t = stands_last ts us t
 
 pub stands_push : {A : Type 0} (ts : List A) (u t : A) (k : ℕ) → StandsAt (ts ++ (u ∷ [])) k t → StandsAt ts k t ⊎ ((k ≡ length ts) × (u ≡ t))
 stands_push [] u t zero h = inr (refl, cc)
-stands_push [] u t (suc k) h = let z : ◌≡◌ {A = ℕ} 0 1 = cc in absurd (omega arith)
+stands_push [] u t (suc k) h = absurd cc
 stands_push (v ∷ ts) u t zero h = inl h
 stands_push (v ∷ ts) u t (suc k) h = ⊎_elim inl (λ p. inr (ap suc p.0, p.1)) (stands_push ts u t k h)
 
@@ -70,7 +70,7 @@ stands_read rows n k x h l e =
 -- ---- membership and place
 
 pub mem_at : {A : Type 0} (ts : List A) (k : ℕ) (t : A) → StandsAt ts k t → Memᴰ t ts
-mem_at [] k t h = let z : ◌≡◌ {A = ℕ} 0 1 = cc in absurd (omega arith)
+mem_at [] k t h = absurd cc
 mem_at (u ∷ ts) zero t h = Memᴰ.head (let e : t ≡ u = cc in e)
 mem_at (u ∷ ts) (suc k) t h = Memᴰ.tail (mem_at ts k t h)
 
@@ -90,8 +90,8 @@ lacks_read rows i e l passed k s =
 
 pub distinct_one : {A : Type 0} (t : A) → Distinct (t ∷ [])
 distinct_one t zero zero v p q = refl
-distinct_one t zero (suc k) v p q = let z : ◌≡◌ {A = ℕ} 0 1 = cc in absurd (omega arith)
-distinct_one t (suc j) k v p q = let z : ◌≡◌ {A = ℕ} 0 1 = cc in absurd (omega arith)
+distinct_one t zero (suc k) v p q = absurd cc
+distinct_one t (suc j) k v p q = absurd cc
 
 pub distinct_push : {A : Type 0} (ts : List A) (u : A) → Distinct ts → Lacks ts u → Distinct (ts ++ (u ∷ []))
 distinct_push ts u d l j k t p q =

@@ -9,7 +9,7 @@ use Rattle.table.proofs.Lists.{stands_below, stands_push, at_mem, mem_at}
 
 module _ {A : Type 0} (R : A → A → Type 0) where
   pub in_order_none : InOrder R []
-  in_order_none j k t u h p q = let z : ◌≡◌ {A = ℕ} 0 1 = cc in absurd (omega arith)
+  in_order_none j k t u h p q = absurd cc
 
   pub in_order_push : (ts : List A) (u : A) → InOrder R ts → ((k : ℕ) (t : A) → StandsAt ts k t → R t u) → InOrder R (ts ++ (u ∷ []))
   in_order_push ts u o before j k t v h p q =

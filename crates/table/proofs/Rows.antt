@@ -1,19 +1,18 @@
 -- Rows of words as sets: members, equality, one more member, how many, and the next one.
-use Rattle.std.proofs.Common.{◌≡◌, ℕ, zero, suc, ◌+◌, ◌-◌, ◌*◌, ◌/◌, ◌%◌, ◌^◌, ◌<◌, ◌≤◌, max, Bool, true, false, eqb, ◌⊎◌, List, length, get_or, set, replicate, Some, None, Option, sym, refl, ap, ◌∙◌, subst, inl, inr, ⊎_elim, arith, length-set, get_or-set_other, get_or-set_same, eq-eqb}
+use Rattle.std.proofs.Common.{◌≡◌, ℕ, zero, suc, ◌+◌, ◌-◌, ◌*◌, ◌/◌, ◌%◌, ◌^◌, ◌<◌, ◌≤◌, max, Bool, eqb, List, length, get_or, set, replicate, sum_by, take, Some, None, Option, sym, refl, ap, ◌∙◌, subst, inl, inr, ⊎_elim, add-one, arith, length-set, get_or-set_other, get_or-set_same, eq-eqb, eqb-true}
 use mathlib.Core.List.{Memᴰ}
 use lib.Bits.{bit_or}
-use lib.Count.{ones}
+use lib.Count.{ones, ones-le, count_trailing_zeros}
 use Rattle.std.proofs.lemmas.Nat.{one_shl, or_lt, pow_below}
-use Rattle.std.proofs.lemmas.List.{get_or_past, ext_get_or}
+use Rattle.std.proofs.Math.Seq.{take-length}
+use Rattle.std.proofs.lemmas.List.{get_or_default, get_or_past, ext_get_or}
+use Rattle.std.proofs.lemmas.List.Sums.{sum_by_more, sum_by-le}
 use Rattle.std.proofs.lemmas.Bool.{cases_lt}
 use Rattle.std.proofs.lemmas.Bool.Decides.{eqb_tells}
 use Rattle.table.specs.Lists.{Ascending}
 use Rattle.table.specs.Sets.{Row, bit, bit_of, In, passing, members, Listed, Inserted, NextMember}
-use Rattle.table.proofs.Bits.{Lowest, bit_below, bit_of_or, bit_zero, bit_high, bit_shr, bit_pow_same, bit_pow_other, passing_ones, bits_same}
+use Rattle.table.proofs.Bits.{Lowest, bit_below, bit_of_or, bit_zero, bit_high, bit_shr, bit_pow_same, bit_pow_other, passing_ones, lowest_is, bits_same}
 use Rattle.table.proofs.Orders.{passing_only, passing_has, passing_ascending, passing_same, passing_length}
-
-pub eqb_one : (n : ℕ) → eqb n 1 ≡ true → n ≡ 1
-eqb_one n h = ⊎_elim (λ e. e.1) (λ e. let z : ◌≡◌ {A = ℕ} 0 1 = (let q : true ≡ false = sym h ∙ e.0 in cc) in absurd (omega arith)) (eqb_tells n 1)
 
 -- ---- members
 
@@ -29,7 +28,7 @@ in_below words row k h =
 
 pub members_in : (words : List ℕ) (k : ℕ) → Memᴰ k (members words) → In words k
 unfolding In members
-members_in words k m = eqb_one (bit_of words k) (passing_only (λ j. eqb (bit_of words j) 1) (64 * length words) k m).1
+members_in words k m = eqb-true (bit_of words k) 1 (passing_only (λ j. eqb (bit_of words j) 1) (64 * length words) k m).1
 
 pub in_members : (words : List ℕ) → Row words → (k : ℕ) → In words k → Memᴰ k (members words)
 unfolding In members
@@ -48,14 +47,8 @@ members_listed words row = record { ascending = members_ascending words; just = 
 
 -- ---- equality
 
-one_or_zero : (n : ℕ) → n < 2 → (n ≡ 1) ⊎ (n ≡ 0)
-one_or_zero zero h = inr refl
-one_or_zero (suc zero) h = inl refl
-one_or_zero (suc (suc n)) h = absurd (omega arith)
-
 same_bit : (m n : ℕ) → m < 2 → n < 2 → (m ≡ 1 → n ≡ 1) → (n ≡ 1 → m ≡ 1) → m ≡ n
-same_bit m n h l f g =
-    ⊎_elim (λ e. e ∙ sym (f e)) (λ e. ⊎_elim (λ d. g d ∙ sym d) (λ d. e ∙ sym d) (one_or_zero n l)) (one_or_zero m h)
+same_bit m n h l f g = grind arith
 
 -- rows with the same members are one
 pub words_same : (ws vs : List ℕ) → Row ws → Row vs → ((k : ℕ) → In ws k → In vs k) → ((k : ℕ) → In vs k → In ws k) → ws ≡ vs
@@ -170,6 +163,21 @@ pub count_members : (words : List ℕ) → Row words → count_below words (64 *
 unfolding members
 count_members words row = ap (λ (n : ℕ). count_below words (64 * n)) (sym row.0)
 
+-- the ones of the first i words
+sum_ones : (words : List ℕ) → Row words → (i : ℕ) → i ≤ length words → sum_by ones (take i words) ≡ count_below words (64 * i)
+sum_ones words row zero h = sym (count_none words)
+sum_ones words row (suc i) h =
+    rw (← add-one i) (sum_by_more ones words i 0 (omega arith) ∙ ap (λ (n : ℕ). n + ones (get_or words i 0)) (sum_ones words row i (omega arith)) ∙ sym (count_more words row i))
+
+pub ones_members : (words : List ℕ) → Row words → sum_by ones words ≡ length (members words)
+ones_members words row =
+    ap (sum_by ones) (sym (ap (λ (n : ℕ). take n words) (sym row.0) ∙ take-length words)) ∙ sum_ones words row 64 (omega (arith, row.0)) ∙ count_members words row
+
+pub few_ones : (words : List ℕ) → Row words → sum_by ones words < 2 ^ 64
+few_ones words row =
+    let all = sum_by-le ones 64 words (λ k d h. rw (get_or_default words k d 0 h) (ones-le 64 (get_or words k 0) (row.1 k))) in
+    omega (arith, all, row.0)
+
 -- ---- the next member
 
 -- no member from a on and below b
@@ -234,3 +242,18 @@ none_in_word words i none k l u m =
     let q : k / 64 ≡ i = omega arith in
     let z : bit_of words k ≡ 0 = ap (λ (j : ℕ). bit (get_or words j 0) (k % 64)) q ∙ ap (λ (x : ℕ). bit x (k % 64)) none ∙ bit_zero (k % 64) in
     omega (arith, z, m)
+
+-- no word from number `first` on has a bit
+pub no_words : (words : List ℕ) → Row words → (first : ℕ) → ((i : ℕ) → first ≤ i → i < 64 → get_or words i 0 ≡ 0) → NextMember words (64 * first) None
+no_words words row first none k l m =
+    let b = in_below words row k m in
+    none_in_word words (k / 64) (none (k / 64) (omega arith) (omega arith)) k (omega arith) (omega arith) m
+
+-- word i is the first that has a bit
+pub first_word : (words : List ℕ) → Row words → (first i : ℕ) → first ≤ i → i < 64 → (get_or words i 0 ≡ 0 → ⊥) → ((k : ℕ) → first ≤ k → k < i → get_or words k 0 ≡ 0)
+    → NextMember words (64 * first) (Some (64 * i + count_trailing_zeros 64 (get_or words i 0)))
+first_word words row first i l h some none =
+    next_down words (64 * first) (64 * i) (omega arith)
+    (λ k a b m. none_in_word words (k / 64) (none (k / 64) (omega arith) (omega arith)) k (omega arith) (omega arith) m)
+    (Some (64 * i + count_trailing_zeros 64 (get_or words i 0)))
+    (next_in_word words row i h _ (lowest_is 64 (get_or words i 0) (omega (arith, some)) (row.1 i)))

@@ -1,7 +1,9 @@
 -- Sets of numbers below 4096 as rows of 64 words of 64 bits.
-use Rattle.std.specs.Prelude.{◌≡◌, ℕ, zero, suc, ◌*◌, ◌/◌, ◌%◌, ◌^◌, ◌<◌, ◌≤◌, Bool, cond, ◌⊎◌, List, [], ◌∷◌, ◌++◌, length, Some, None, Option, nat_eq, slice_index}
+use Rattle.std.specs.Prelude.{◌≡◌, ℕ, zero, suc, ◌+◌, ◌*◌, ◌/◌, ◌%◌, ◌^◌, ◌<◌, ◌≤◌, Bool, cond, ◌&&◌, ◌⊎◌, List, [], ◌∷◌, ◌++◌, length, Some, None, Option, MatchOption, nat_eq, nat_le, slice_index}
+use Rattle.std.specs.Iterator.{YieldsFirstBy}
 use mathlib.Core.List.{Memᴰ}
 use Rattle.table.specs.Lists.{Ascending}
+use Rattle.table.specs.Numbers.{value_in}
 
 -- a row has 64 words, each of 64 bits
 abbrev pub Row : List ℕ → Type 0
@@ -28,6 +30,10 @@ passing test (suc n) = passing test n ++ cond (test n) (n ∷ []) []
 unfoldable pub members : List ℕ → List ℕ
 members words = passing (λ k. nat_eq (bit_of words k) 1) (64 * length words)
 
+-- the members that are `from` or more, ascending
+unfoldable pub members_from : List ℕ → ℕ → List ℕ
+members_from words from = passing (λ k. nat_le from k && nat_eq (bit_of words k) 1) (64 * length words)
+
 -- ks lists the members of the row, ascending
 pub record Listed (words : List ℕ) (ks : List ℕ) : Type 0 where
   pub ascending : Ascending ks
@@ -44,3 +50,18 @@ pub record Inserted (words : List ℕ) (k : ℕ) (words' : List ℕ) : Type 0 wh
 abbrev pub NextMember : List ℕ → ℕ → Option ℕ → Type 0
 NextMember words from None = (k : ℕ) → from ≤ k → In words k → ⊥
 NextMember words from (Some k) = (from ≤ k) × (k < 4096) × In words k × ((j : ℕ) → from ≤ j → j < k → In words j → ⊥)
+
+-- where a walk over the members of a row stands: the members that are `from` or more are left
+pub record Walk : Type 0 where
+  pub words : List ℕ
+  pub from : ℕ
+
+abbrev pub members_left : Walk → List ℕ
+members_left w = members_from w.words w.from
+
+-- a step of a walk gives the least member that is left and leaves those after it, or gives none where none is left
+pub record WalkStep {N : Type 0} (value : N → ℕ) (w : Walk) (r : Option N) (v : Walk) : Type 0 where
+  pub words : v.words ≡ w.words
+  pub from : MatchOption r (v.from ≡ w.from) (λ n. v.from ≡ value n + 1)
+  pub least : NextMember w.words w.from (value_in value r)
+  pub first : YieldsFirstBy value members_left w r v

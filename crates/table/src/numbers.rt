@@ -3,6 +3,7 @@ ghost use Rattle.std.specs.Prelude.{◌≡◌, ℕ, ◌<◌};
 ghost use Rattle.std.proofs.Common.{rules};
 
 /// A sort of numbers of 16 bits.
+// A trait of its own and no `From`: only an index below 65,536 is a number, and one law holds of all sorts.
 pub trait Number: Copy {
     /// the plain number
     ghost value: { Self → ℕ };
@@ -21,20 +22,23 @@ pub trait Number: Copy {
     ghost one: { (x y : Self) → value x ≡ value y → x ≡ y };
 }
 
+// Four structs with an impl each: one generic in a marker would take a second field, and so lose the form `ItemNo(n)` that all crates write and match,
+// and a macro may write no impl.
+
 /// The number of a dotted rule.
 #[derive(Clone, Copy, PartialEq, Eq, Debug)]
 pub struct ItemNo(pub u16);
 
 /// The number of a state of the characteristic machine, or of a determinised acceptor.
-#[derive(Clone, Copy, PartialEq, Eq, Debug)]
+#[derive(Clone, Copy, PartialEq, Eq, Default, Debug)]
 pub struct StateNo(pub u16);
 
 /// The number of a node of the unfolded machine.
-#[derive(Clone, Copy, PartialEq, Eq, Debug)]
+#[derive(Clone, Copy, PartialEq, Eq, PartialOrd, Ord, Default, Debug)]
 pub struct NodeNo(pub u16);
 
 /// The number of a class of stacks.
-#[derive(Clone, Copy, PartialEq, Eq, Debug)]
+#[derive(Clone, Copy, PartialEq, Eq, Default, Debug)]
 pub struct ClassNo(pub u16);
 
 impl Number for ItemNo {

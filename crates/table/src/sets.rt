@@ -16,6 +16,8 @@ pub struct NumberSet<N> {
     ghost row: { Row words },
 }
 
+// Written out: `derive_where` makes no `Clone` of a struct with a ghost field, and a plain derive would ask `Clone` of `N`, which this does not.
+
 /// The same set; it does not fail.
 impl<N> Clone for NumberSet<N> {
     ghost is_clone = { λ x y. y ≡ x };
@@ -35,6 +37,7 @@ pub type ItemSet = NumberSet<ItemNo>;
 /// A set of nodes.
 pub type NodeSet = NumberSet<NodeNo>;
 
+// Written out: a derived `==` would not promise that it decides whether the sets are one.
 impl<N> PartialEq for NumberSet<N> {
     ghost eq = { λ x y. pointwise nat_eq x.words y.words };
 
@@ -48,4 +51,5 @@ impl<N> PartialEq for NumberSet<N> {
     }
 }
 
+pub mod iter;
 pub mod members;

@@ -32,8 +32,8 @@ same_tells = tells_by same same_equal same_refl
 
 pub class_equal : (a b : Class) → same_class a b ≡ true → a ≡ b
 class_equal (states a) (states b) e = ap states (same_equal a b e)
-class_equal (states a) (pair c d) e = let z : ◌≡◌ {A = ℕ} 0 1 = cc in absurd (omega arith)
-class_equal (pair a b) (states c) e = let z : ◌≡◌ {A = ℕ} 0 1 = cc in absurd (omega arith)
+class_equal (states a) (pair c d) e = absurd (cc)
+class_equal (pair a b) (states c) e = absurd (cc)
 class_equal (pair a b) (pair c d) e = let (l, r) = and_only (same_class a c) (same_class b d) e in ap₂ pair (class_equal a c l) (class_equal b d r)
 
 class_refl : (a : Class) → same_class a a ≡ true

@@ -47,13 +47,13 @@ module _ (all : List Item) where
   follows_only x k h = cases (get_elem? all k) refl
     where
       starts : (i : Item) (r : List ℕ) → i.after ≡ r → get_elem? all k ≡ some i → begins_with x r ≡ true → Follows x k
-      starts i [] q e b = let z : ◌≡◌ {A = ℕ} 0 1 = cc in absurd (omega arith)
+      starts i [] q e b = absurd (cc)
       starts i (y ∷ r) q e b =
           let p : x ≡ y = eqb-true x y b in
           record { left = i.left; before = i.before; after = r; at = e ∙ ap (λ s. some (item i.left i.before s)) (q ∙ ap (λ z. z ∷ r) (sym p)) }
 
       cases : (o : Option Item) → get_elem? all k ≡ o → Follows x k
-      cases none e = let f = follows_none x k e in let z : ◌≡◌ {A = ℕ} 0 1 = cc in absurd (omega arith)
+      cases none e = let f = follows_none x k e in absurd (cc)
       cases (some i) e = starts i i.after refl e (sym (follows_at x k e) ∙ h)
 
   opens_is : (j k a c : ℕ) (l r s : List ℕ) → get_elem? all j ≡ some (item a l (c ∷ r)) → get_elem? all k ≡ some (item c [] s) → opens all j k ≡ true
@@ -70,10 +70,10 @@ module _ (all : List Item) where
     where
       starts : (i : Item) (l : List ℕ) → i.before ≡ l → get_elem? all k ≡ some i → is_empty l ≡ true → follows all i.left j ≡ true → Opens j k
       starts i [] q e b f = record { name = i.left; side = i.after; first = e ∙ ap (λ l. some (item i.left l i.after)) q; after = follows_only i.left j f }
-      starts i (y ∷ l) q e b f = let z : ◌≡◌ {A = ℕ} 0 1 = cc in absurd (omega arith)
+      starts i (y ∷ l) q e b f = absurd (cc)
 
       cases : (o : Option Item) → get_elem? all k ≡ o → Opens j k
-      cases none e = let f = opens_none j k e in let z : ◌≡◌ {A = ℕ} 0 1 = cc in absurd (omega arith)
+      cases none e = let f = opens_none j k e in absurd (cc)
       cases (some i) e = let (b, f) = and_only (is_empty i.before) (follows all i.left j) (sym (opens_at j k e) ∙ h) in starts i i.before refl e b f
 
 -- ── the closure ──

@@ -163,8 +163,8 @@ after_known g u k {a} {c} {l} {r} e = cases (belongs g k e)
   where
     in_start : (l : List ℕ) → l ++ (c ∷ r) ≡ g.start ∷ [] → c < symbols g
     in_start [] h = let p : c ≡ g.start = cc in let n = u.start_known in omega arith
-    in_start (x ∷ []) h = let z : ◌≡◌ {A = ℕ} 0 1 = cc in absurd (omega arith)
-    in_start (x ∷ (y ∷ l)) h = let z : ◌≡◌ {A = ℕ} 0 1 = cc in absurd (omega arith)
+    in_start (x ∷ []) h = absurd (cc)
+    in_start (x ∷ (y ∷ l)) h = absurd (cc)
 
     cases : Belongs g a l (c ∷ r) → c < symbols g
     cases (to_added p h) = in_start l h

@@ -17,8 +17,8 @@ module _ {g : Grammar} {G : Graph} (m : Lawful g G) (linear : LeftLinear g) wher
   -- past the first symbol of a right side stands no name
   no_name : {a c y : ℕ} (l r : List ℕ) → Ruled g a (y ∷ l) (c ∷ r) → g.words ≤ c → ⊥
   no_name {c = c} l r (given h) n = let k = sentence_at g l c r (linear _ _ (l ++ (c ∷ r)) h.1) in omega arith
-  no_name [] r (added e h) n = let z : ◌≡◌ {A = ℕ} 0 1 = cc in omega arith
-  no_name (z ∷ l) r (added e h) n = let z : ◌≡◌ {A = ℕ} 0 1 = cc in omega arith
+  no_name [] r (added e h) n = cc
+  no_name (z ∷ l) r (added e h) n = cc
 
   begun_only : {q p x : ℕ} {γ : List ℕ} → Way G.moves q γ → Move G q x p → {a : ℕ} {l r : List ℕ} → Closes g (Over (G.Item q) x) a l r → l ≡ [] → ⊥
   begun_only w v (kernel f) e = snoc_not_nil f.rest _ (sym f.is ∙ e)

@@ -17,15 +17,15 @@ true_or_false false = inr refl
 
 pub and_is : (a b : Bool) → a ≡ true → b ≡ true → and a b ≡ true
 and_is true b e f = f
-and_is false b e f = let z : ◌≡◌ {A = ℕ} 0 1 = cc in absurd (omega arith)
+and_is false b e f = absurd (cc)
 
 pub and_only : (a b : Bool) → and a b ≡ true → (a ≡ true) × (b ≡ true)
 and_only true b e = (refl, e)
-and_only false b e = let z : ◌≡◌ {A = ℕ} 0 1 = cc in absurd (omega arith)
+and_only false b e = absurd (cc)
 
 pub or_left : (a b : Bool) → a ≡ true → or a b ≡ true
 or_left true b e = refl
-or_left false b e = let z : ◌≡◌ {A = ℕ} 0 1 = cc in absurd (omega arith)
+or_left false b e = absurd (cc)
 
 pub or_right : (a b : Bool) → b ≡ true → or a b ≡ true
 or_right true b e = refl
@@ -39,7 +39,7 @@ pub some_one : {A : Type 0} {a c : A} {o : Option A} → o ≡ some a → o ≡ 
 some_one p q = cc
 
 pub none_some : {A : Type 0} {a : A} {o : Option A} → o ≡ none → o ≡ some a → ⊥
-none_some p q = let z : ◌≡◌ {A = ℕ} 0 1 = cc in omega arith
+none_some p q = cc
 
 -- ── what a test keeps ──
 
@@ -67,7 +67,7 @@ module _ {A : Type 0} (p : A → Bool) where
       (Memᴰ.cases_cons m)
 
   pub any_mem : (xs : List A) → any p xs ≡ true → (k : A) × Memᴰ k xs × (p k ≡ true)
-  any_mem [] e = let z : ◌≡◌ {A = ℕ} 0 1 = cc in absurd (omega arith)
+  any_mem [] e = absurd (cc)
   any_mem (x ∷ xs) e =
       ⊎_elim (λ q. (x, Memᴰ.head refl, q))
       (λ (q : p x ≡ false). let (k, m, t) = any_mem xs (rw (q, any) at e) in (k, Memᴰ.tail m, t)) (true_or_false (p x))
@@ -83,7 +83,7 @@ module _ {A : Type 0} (p : A → Bool) where
   every_all [] e = tt
   every_all (x ∷ xs) e =
       ⊎_elim (λ (q : p x ≡ true). (q, every_all xs (rw (q, every) at e)))
-      (λ (q : p x ≡ false). let k : every p (x ∷ xs) ≡ false = rw (q, every) in let z : ◌≡◌ {A = ℕ} 0 1 = cc in absurd (omega arith))
+      (λ (q : p x ≡ false). let k : every p (x ∷ xs) ≡ false = rw (q, every) in absurd (cc))
       (true_or_false (p x))
 
   pub keep_length : (xs : List A) → length (keep p xs) ≤ length xs
@@ -102,11 +102,11 @@ module _ {A : Type 0} (p : A → Bool) where
 
 pub same_equal : (xs ys : List ℕ) → same xs ys ≡ true → xs ≡ ys
 same_equal [] [] e = refl
-same_equal [] (y ∷ ys) e = let z : ◌≡◌ {A = ℕ} 0 1 = cc in absurd (omega arith)
-same_equal (x ∷ xs) [] e = let z : ◌≡◌ {A = ℕ} 0 1 = cc in absurd (omega arith)
+same_equal [] (y ∷ ys) e = absurd (cc)
+same_equal (x ∷ xs) [] e = absurd (cc)
 same_equal (x ∷ xs) (y ∷ ys) e =
     ⊎_elim (λ (q : eqb x y ≡ true). let r = same_equal xs ys (rw (q, same) at e) in let s = eqb-true x y q in cc)
-    (λ (q : eqb x y ≡ false). let k : same (x ∷ xs) (y ∷ ys) ≡ false = rw (q, same) in let z : ◌≡◌ {A = ℕ} 0 1 = cc in absurd (omega arith))
+    (λ (q : eqb x y ≡ false). let k : same (x ∷ xs) (y ∷ ys) ≡ false = rw (q, same) in absurd (cc))
     (true_or_false (eqb x y))
 
 -- ── elements ──
@@ -121,8 +121,8 @@ all_from_mem P (y ∷ ys) h = (h y (Memᴰ.head refl), all_from_mem P ys (λ x m
 
 -- a list with a last element is not empty
 pub snoc_not_nil : {A : Type 0} (xs : List A) (x : A) → xs ++ (x ∷ []) ≡ [] → ⊥
-snoc_not_nil [] x e = let z : ◌≡◌ {A = ℕ} 0 1 = cc in omega arith
-snoc_not_nil (y ∷ ys) x e = let z : ◌≡◌ {A = ℕ} 0 1 = cc in omega arith
+snoc_not_nil [] x e = cc
+snoc_not_nil (y ∷ ys) x e = cc
 
 -- ── places ──
 

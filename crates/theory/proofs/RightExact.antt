@@ -14,8 +14,8 @@ use Rattle.theory.proofs.Steps.{step_last, derives_more, sentence_at, sentence_p
 
 one_last : (l : List ℕ) (c : ℕ) (r : List ℕ) {y : ℕ} → l ++ (c ∷ r) ≡ y ∷ [] → (l ≡ []) × (c ≡ y) × (r ≡ [])
 one_last [] c r e = (refl, cc, cc)
-one_last (x ∷ []) c r e = let z : ◌≡◌ {A = ℕ} 0 1 = cc in absurd (omega arith)
-one_last (x ∷ (y ∷ l)) c r e = let z : ◌≡◌ {A = ℕ} 0 1 = cc in absurd (omega arith)
+one_last (x ∷ []) c r e = absurd (cc)
+one_last (x ∷ (y ∷ l)) c r e = absurd (cc)
 
 -- a list that is not empty has a last element
 record Ended (xs : List ℕ) : Type 0 where
@@ -73,7 +73,7 @@ module _ {g : Grammar} {G : Graph} (m : Lawful g G) (linear : RightLinear g) (na
   -- after a name only completed rules are left
   dead_closed : {q c : ℕ} {γ : List ℕ} → Way G.moves q γ → g.words ≤ c → {a : ℕ} {l r : List ℕ} → Closes g (Over (G.Item q) c) a l r → r ≡ []
   dead_closed {q} {c} w n (kernel {r = r} f) = name_last f.rest c r (ruled m w f.was) n
-  dead_closed w n (opened i h) = let e = dead_closed w n i in let z : ◌≡◌ {A = ℕ} 0 1 = cc in absurd (omega arith)
+  dead_closed w n (opened i h) = let e = dead_closed w n i in absurd (cc)
 
   abbrev Dead : ℕ → Type 0
   Dead q = (a : ℕ) (l r : List ℕ) → G.Item q a l r → r ≡ []
@@ -99,7 +99,7 @@ module _ {g : Grammar} {G : Graph} (m : Lawful g G) (linear : RightLinear g) (na
     dead_reads (arc {q = q} {r = r} {x = x} e t) d =
         let o = m.move_only ((fl.arcs q x r).0 e).0 in
         let e = d o.0 o.1 (x ∷ o.2) o.3 in
-        let z : ◌≡◌ {A = ℕ} 0 1 = cc in absurd (omega arith)
+        absurd (cc)
     dead_reads (jump {q = q} {r = r} e t) d = dead_reads t (jump_dead ((fl.jumps q r).0 e))
 
     right_reads : {q p : ℕ} {w : List ℕ} → Reads f q w p → G.Item p (symbols g) (g.start ∷ []) [] → {γ : List ℕ} → Way G.moves q γ → Sentence g γ → DerivedFrom g (γ ++ w) (g.start ∷ [])

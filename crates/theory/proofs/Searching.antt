@@ -224,8 +224,8 @@ module _ {A : Type 0} {equal : A → A → Bool} (tells : Tells equal) (step : A
 
   one_earlier : (start : A) → Earlier aims (start ∷ [])
   one_earlier start [] after e q ne = absurd (ne refl)
-  one_earlier start (b ∷ []) after e q ne = let z : ◌≡◌ {A = ℕ} 0 1 = cc in absurd (omega arith)
-  one_earlier start (b ∷ (c ∷ before)) after e q ne = let z : ◌≡◌ {A = ℕ} 0 1 = cc in absurd (omega arith)
+  one_earlier start (b ∷ []) after e q ne = absurd (cc)
+  one_earlier start (b ∷ (c ∷ before)) after e q ne = absurd (cc)
 
   -- what is computed is numbered in finding order
   pub computed : (n : ℕ) (start : A) {r : Search A} → numbered equal step on n start ≡ some r → Numbered step on start r.entries r.moves

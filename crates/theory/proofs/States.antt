@@ -40,7 +40,7 @@ module _ (g : Grammar) (u : Sound g) where
   one_not_first {k} {c} {s} t e =
       let w = same_item g 1 (subst (λ n. Dotted g n c [] s) e t) (item_one g) in
       let p : [] ≡ g.start ∷ [] = ap (λ (i : Item). i.before) w in
-      let z : ◌≡◌ {A = ℕ} 0 1 = cc in omega arith
+      cc
 
   zero_not_one : {k : ℕ} → Closed g (0 ∷ []) k → k ≡ 1 → ⊥
   zero_not_one (kernel m h) e = ⊎_elim (λ q. omega arith) (λ n. Memᴰ.not-nil n) (Memᴰ.cases_cons m)

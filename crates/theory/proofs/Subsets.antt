@@ -36,8 +36,8 @@ record LastWord (f : Acceptor) (q : ℕ) (w : List ℕ) (x p : ℕ) : Type 0 whe
   back : Reads f right [] p
 
 last_word : {f : Acceptor} {q p : ℕ} {v : List ℕ} → Reads f q v p → (w : List ℕ) (x : ℕ) → v ≡ w ++ (x ∷ []) → LastWord f q w x p
-last_word stop [] x e = let z : ◌≡◌ {A = ℕ} 0 1 = cc in absurd (omega arith)
-last_word stop (y ∷ w) x e = let z : ◌≡◌ {A = ℕ} 0 1 = cc in absurd (omega arith)
+last_word stop [] x e = absurd (cc)
+last_word stop (y ∷ w) x e = absurd (cc)
 last_word {f} {q} {p} (arc {r = r} {x = y} {w = u} a k) [] x e =
     let d : y ≡ x = cc in let g : u ≡ [] = cc in
     record { left = q; right = r; front = stop; over = subst (λ i. Memᴰ (q, i, r) f.arcs) d a; back = subst (λ l. Reads f r l p) g k }
@@ -55,7 +55,7 @@ record Parted (f : Acceptor) (q : ℕ) (u v : List ℕ) (p : ℕ) : Type 0 where
 
 parted : {f : Acceptor} {q p : ℕ} {w : List ℕ} → Reads f q w p → (u v : List ℕ) → w ≡ u ++ v → Parted f q u v p
 parted {f} {q} {p} stop [] v e = record { middle = q; front = stop; back = subst (λ l. Reads f q l p) e stop }
-parted stop (y ∷ u) v e = let z : ◌≡◌ {A = ℕ} 0 1 = cc in absurd (omega arith)
+parted stop (y ∷ u) v e = absurd (cc)
 parted {f} {q} {p} (arc a k) [] v e = record { middle = q; front = stop; back = subst (λ l. Reads f q l p) e (arc a k) }
 parted {f} {q} (arc {r = r} {x = x} {w = w} a k) (y ∷ u) v e =
     let d : x ≡ y = cc in let g : w ≡ u ++ v = cc in
@@ -112,7 +112,7 @@ module _ (f : Acceptor) (fit : InRange f) where
 
   jumped_reach : {q n : ℕ} {v : List ℕ} → Reads f q v n → v ≡ [] → {set : List ℕ} → Reach (upto f.nodes) (jumps_to f) set q → Reach (upto f.nodes) (jumps_to f) set n
   jumped_reach stop e r = r
-  jumped_reach (arc a k) e r = let z : ◌≡◌ {A = ℕ} 0 1 = cc in absurd (omega arith)
+  jumped_reach (arc a k) e r = absurd (cc)
   jumped_reach (jump {q = q} {r = t} j k) e r = jumped_reach k e (step r (upto_has f.nodes _ (fit.jumps_within q t j).1) (jumps_to_is f q t j))
 
   pub spread_members : (set : List ℕ) → ((k : ℕ) → Memᴰ k set → k < f.nodes) → (n : ℕ) → Memᴰ n (spread f set) ↔ Jumped set n

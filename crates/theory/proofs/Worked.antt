@@ -119,7 +119,7 @@ subset_holds r b d u e h t =
     }
 
 some_passes : {A : Type 0} (test : A → Bool) (o : Option A) → on_some test o ≡ true → (a : A) × (o ≡ some a) × (test a ≡ true)
-some_passes test none e = let z : ◌≡◌ {A = ℕ} 0 1 = cc in absurd (omega arith)
+some_passes test none e = absurd (cc)
 some_passes test (some a) e = (a, refl, e)
 
 -- a row that passes its test holds

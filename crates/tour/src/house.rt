@@ -18,6 +18,8 @@ pub const WORDS: u16 = 10;
 /// How many names there are.
 pub const NAMES: u16 = 5;
 
+// Numbers, and no enum: the symbols of a book are the numbers in its table.
+
 // the words
 pub const TURN: u16 = 0;
 
@@ -103,8 +105,5 @@ pub const RULES: [Rule; 10] = [
 
 /// A symbol's spelling.
 pub fn spelling(symbol: u16) -> &'static str {
-    match SPELLING.get(symbol as usize) {
-        Some(text) => *text,
-        None => "?",
-    }
+    SPELLING.get(symbol as usize).copied().unwrap_or("?")
 }

@@ -1,8 +1,9 @@
 //! The characteristic machines of the house's book and of three small grammars.
 use super::ENTRIES;
-use book::{BookFault, add, blank};
+use super::telling::refuse;
 use finding::moves::Move;
 use machine::machine::characteristic;
+use samples::{left_linear, nested, two_sides};
 use std::io;
 use table::numbers::StateNo;
 use table::sets::ItemSet;
@@ -13,13 +14,8 @@ const ROWS: usize = 32;
 /// Builds the machine of a book in tables of so many state rows, and prints its size and its moves.
 fn print_machine(rt: &impl Print, name: &str, table: &[u16], rows: usize) -> io::Result<()> {
     let mut states = [ItemSet::empty(); ROWS];
-    let mut moves = [Move {
-        from: StateNo(0),
-        symbol: 0,
-        to: StateNo(0),
-    }; ROWS];
-    let rows = rows.min(ROWS);
-    match characteristic(table, &mut states[0..rows], &mut moves) {
+    let mut moves = [Move::default(); ROWS];
+    match characteristic(table, &mut states[..rows.min(ROWS)], &mut moves) {
         Ok(m) => {
             let last = m.final_state.0;
             println!(rt;
@@ -28,10 +24,7 @@ fn print_machine(rt: &impl Print, name: &str, table: &[u16], rows: usize) -> io:
             )?;
             print_moves(rt, &moves, m.moves)
         }
-        Err(fault) => {
-            let refusal = fault.refusal();
-            println!(rt; "{name}: {refusal}")
-        }
+        Err(fault) => refuse(rt, name, fault),
     }
 }
 
@@ -47,29 +40,6 @@ fn print_moves(rt: &impl Print, moves: &[Move<StateNo>], count: usize) -> io::Re
     println!(rt; "")
 }
 
-/// S → a X a | b X b, X → c, with a = 0, b = 1, c = 2, S = 3 and X = 4.
-pub fn two_sides(table: &mut [u16]) -> Result<usize, BookFault> {
-    blank(table, 3, 2, 3)?;
-    add(table, 3, &[0, 4, 0])?;
-    add(table, 3, &[1, 4, 1])?;
-    add(table, 4, &[2])
-}
-
-/// S → A b, A → A a | ε, with a = 0, b = 1, S = 2 and A = 3.
-fn left_recursive(table: &mut [u16]) -> Result<usize, BookFault> {
-    blank(table, 2, 2, 2)?;
-    add(table, 2, &[3, 1])?;
-    add(table, 3, &[3, 0])?;
-    add(table, 3, &[])
-}
-
-/// S → a S b | ε, with a = 0, b = 1 and S = 2.
-fn nested(table: &mut [u16]) -> Result<usize, BookFault> {
-    blank(table, 2, 1, 2)?;
-    add(table, 2, &[0, 2, 1])?;
-    add(table, 2, &[])
-}
-
 /// The machines, and one that finds a row too few.
 pub fn chapter(rt: &impl Print, house: &[u16]) -> io::Result<()> {
     println!(rt; "")?;
@@ -80,7 +50,7 @@ pub fn chapter(rt: &impl Print, house: &[u16]) -> io::Result<()> {
         print_machine(rt, "S → aXa | bXb, X → c", &table, 9)?;
         print_machine(rt, "the same with eight rows", &table, 8)?;
     }
-    if left_recursive(&mut table).is_ok() {
+    if left_linear(&mut table).is_ok() {
         print_machine(rt, "S → Ab, A → Aa | ε", &table, ROWS)?;
     }
     if nested(&mut table).is_ok() {

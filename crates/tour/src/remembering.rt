@@ -1,18 +1,15 @@
 //! One grammar compiled under several policies: how many nodes each remembers apart.
 use super::ENTRIES;
-use super::machines::two_sides;
-use compiler::compile::{Workspace, compile_book};
-use finding::moves::Move;
-use flattening::jump::Jump;
+use super::telling::refuse;
+use compiler::compile::compile_book;
+use compiler::tables::Tables;
 use policies::both::Both;
 use policies::last::{Depth, Last};
 use policy::one_class::OneClass;
 use policy::path::Path;
 use policy::stacks::Policy;
+use samples::two_sides;
 use std::io;
-use table::numbers::{ClassNo, NodeNo, StateNo};
-use table::sets::ItemSet;
-use unfolding::node::Node;
 
 /// More states, nodes, moves and jumps than the grammar has under any policy of the chapter.
 const ROWS: usize = 32;
@@ -24,42 +21,14 @@ fn print_compiled<P: Policy>(
     book: &[u16],
     policy: &mut P,
 ) -> io::Result<()> {
-    let mut states = [ItemSet::empty(); ROWS];
-    let mut moves = [Move {
-        from: StateNo(0),
-        symbol: 0,
-        to: StateNo(0),
-    }; ROWS];
-    let mut nodes = [Node {
-        state: StateNo(0),
-        class: ClassNo(0),
-    }; ROWS];
-    let mut unfolded = [Move {
-        from: NodeNo(0),
-        symbol: 0,
-        to: NodeNo(0),
-    }; ROWS];
-    let mut jumps = [Jump {
-        from: NodeNo(0),
-        to: NodeNo(0),
-    }; ROWS];
+    let mut tables = Tables::<ROWS, ROWS, ROWS, ROWS>::new();
     let mut out = [0; 512];
-    let work = Workspace {
-        states: &mut states,
-        moves: &mut moves,
-        nodes: &mut nodes,
-        unfolded: &mut unfolded,
-        jumps: &mut jumps,
-    };
-    match compile_book(book, policy, work, &mut out) {
+    match compile_book(book, policy, tables.lend(), &mut out) {
         Ok(c) => println!(rt;
             "{name}: {} nodes, {} unfolded moves, {} arcs, {} jumps",
             c.nodes, c.unfolded, c.arcs, c.jumps
         ),
-        Err(fault) => {
-            let refusal = fault.refusal();
-            println!(rt; "{name}: {refusal}")
-        }
+        Err(fault) => refuse(rt, name, fault),
     }
 }
 

@@ -2,18 +2,21 @@
 ghost use Rattle.std.specs.Prelude.{◌≡◌, if◌then◌else◌, codes};
 
 use super::house::spelling;
-use book::BookFault;
+use book::{BookFault, Refusal};
 use std::io;
 
 /// What was called, and the length that it used or its refusal.
 pub fn tell(rt: &impl Print, call: &str, answer: Result<usize, BookFault>) -> io::Result<()> {
     match answer {
         Ok(used) => println!(rt; "{call}: {used} used"),
-        Err(fault) => {
-            let refusal = fault.refusal();
-            println!(rt; "{call}: {refusal}")
-        }
+        Err(fault) => refuse(rt, call, fault),
     }
+}
+
+/// What was refused, with number, layer and place.
+pub fn refuse(rt: &impl Print, name: &str, fault: impl Into<Refusal>) -> io::Result<()> {
+    let refusal = fault.into();
+    println!(rt; "{name}: {refusal}")
 }
 
 /// Yes or no.

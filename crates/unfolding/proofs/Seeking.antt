@@ -1,5 +1,5 @@
--- Halving a list of moves that rises, and what it finds.
-use Rattle.std.proofs.Common.{◌≡◌, ℕ, ◌+◌, ◌<◌, ◌≤◌, List, length, get_or, refl, ap, ◌∙◌, subst, inl, inr, ⊎_elim, arith}
+-- What stands where the moves of a state begin.
+use Rattle.std.proofs.Common.{◌≡◌, ℕ, ◌<◌, ◌≤◌, List, length, get_or, refl, ap, subst, inl, inr, ⊎_elim, arith}
 use mathlib.Core.Option.{some, none}
 use mathlib.Core.List.{Memᴰ}
 use Rattle.std.proofs.lemmas.List.{length-map}
@@ -10,9 +10,11 @@ use Rattle.table.proofs.Lists.{stands_below, stands_same, stands_getD, stands_ma
 use Rattle.finding.specs.declared.moves.Move.{Move}
 use Rattle.finding.specs.Laws.{Rises}
 use Rattle.finding.specs.Numbered.{Arrow}
+use Rattle.finding.proofs.Seeking.{move_here}
 use Rattle.theory.specs.Unfolding.{along}
 use Rattle.theory.proofs.Unfolding.{along_is, along_mem, along_none}
-use Rattle.unfolding.specs.Moves.{state_arrow, state_arrows, Before, Parted}
+use Rattle.finding.specs.Lookup.{Before, Parted}
+use Rattle.unfolding.specs.Moves.{state_arrow, state_arrows}
 
 pub arrows_length : (ms : List (Move StateNo)) → length (state_arrows ms) ≡ length ms
 arrows_length ms = length-map ms state_arrow
@@ -20,26 +22,6 @@ arrows_length ms = length-map ms state_arrow
 -- the move at a place, as it is read
 pub read_arrow : (ms : List (Move StateNo)) (k : ℕ) (d : Move StateNo) → k < length ms → StandsAt (state_arrows ms) k (state_arrow (get_or ms k d))
 read_arrow ms k d h = stands_map state_arrow ms k (get_or ms k d) (stands_getD ms k d h)
-
--- what comes earlier is before too
-before_earlier : (m n : Arrow) {s x : ℕ} → Rises m n → Before n s x → Before m s x
-before_earlier m n (inl a) (inl b) = inl (omega arith)
-before_earlier m n (inl a) (inr b) = inl (omega (arith, b.0))
-before_earlier m n (inr a) (inl b) = inl (omega (arith, a.0))
-before_earlier m n (inr a) (inr b) = inr (a.0 ∙ b.0, omega (arith, a.1, b.1))
-
-module _ (ms : List Arrow) (rising : InOrder Rises ms) (s x : ℕ) (j : ℕ) (a : Arrow) (at : StandsAt ms j a) where
-  pub front_more : Before a s x → (k : ℕ) (m : Arrow) → StandsAt ms k m → k < j + 1 → Before m s x
-  front_more b k m h l =
-      ⊎_elim (λ u. before_earlier m a (rising k j m a u h at) b)
-      (λ u. let e : k ≡ j = omega arith in subst (λ (y : Arrow). Before y s x) (stands_same ms j a m at (subst (λ (y : ℕ). StandsAt ms y m) e h)) b)
-      (cases_lt k j)
-
-  pub rest_more : (Before a s x → ⊥) → (k : ℕ) (m : Arrow) → StandsAt ms k m → j ≤ k → Before m s x → ⊥
-  rest_more n k m h l b =
-      ⊎_elim (λ u. n (before_earlier a m (rising j k a m u at h) b))
-      (λ u. let e : k ≡ j = omega arith in n (subst (λ (y : Arrow). Before y s x) (stands_same ms j m a (subst (λ (y : ℕ). StandsAt ms y m) e h) at) b))
-      (cases_lt j k)
 
 -- ── what stands where the moves part ──
 
@@ -114,23 +96,4 @@ module _ (ms : List Arrow) (rising : InOrder Rises ms) where
 
     -- a move on x itself stands where the rest begins
     pub move_at : (t : ℕ) → along ms s x ≡ some t → StandsAt ms n (s, x, t)
-    move_at t e =
-        let w = along_mem ms e in
-        let (k, at) = at_mem ms (s, x, t) w in
-        ⊎_elim (λ u. absurd (front t (parted.front k (s, x, t) at u)))
-        (λ u. ⊎_elim (λ v. absurd (first t k at v)) (λ v. let z : k ≡ n = omega arith in subst (λ (i : ℕ). StandsAt ms i (s, x, t)) z at) (cases_lt n k))
-        (cases_lt k n)
-      where
-        front : (t : ℕ) → Before (s, x, t) s x → ⊥
-        front t (inl a) = omega arith
-        front t (inr a) = omega (arith, a.1)
-
-        first : (t k : ℕ) → StandsAt ms k (s, x, t) → n < k → ⊥
-        first t k at v =
-            let b = stands_below ms k (s, x, t) at in
-            let (m, here) = stands_some ms n (omega arith) in
-            parted.rest n m here (omega arith) (back m (rising n k m (s, x, t) v here at))
-          where
-            back : (m : Arrow) → Rises m (s, x, t) → Before m s x
-            back m (inl a) = inl a
-            back m (inr a) = inr (a.0, a.1)
+    move_at t e = move_here ms rising s x n parted t (along_mem ms e)

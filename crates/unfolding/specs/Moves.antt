@@ -1,8 +1,8 @@
 -- The moves of a machine as they are listed, and where those of a state begin.
-use Rattle.std.specs.Prelude.{◌≡◌, ℕ, ◌<◌, ◌≤◌, ◌⊎◌, List, map, length, Some, None, Option}
+use Rattle.std.specs.Prelude.{◌≡◌, ℕ, ◌<◌, ◌≤◌, List, map, Some, None, Option}
 use Rattle.std.proofs.Math.Option.{none, some}
 use mathlib.Core.List.{Memᴰ}
-use Rattle.table.specs.Lists.{StandsAt, InOrder}
+use Rattle.table.specs.Lists.{InOrder}
 use Rattle.table.specs.declared.numbers.StateNo.{StateNo}
 use Rattle.finding.specs.declared.moves.Move.{Move}
 use Rattle.finding.specs.Finding.{arrow}
@@ -22,16 +22,6 @@ pub record Ordered (moves : List Arrow) (symbols : ℕ) : Type 0 where
   pub rising : InOrder Rises moves
   pub below : (m : Arrow) → Memᴰ m moves → m.1 < symbols
   pub few : symbols ≤ 2048
-
--- the move comes before the moves of state s on symbol x or more
-abbrev pub Before : Arrow → ℕ → ℕ → Type 0
-Before m s x = (m.0 < s) ⊎ ((m.0 ≡ s) × (m.1 < x))
-
--- just the first n moves come before the moves of state s on symbol x or more
-pub record Parted (moves : List Arrow) (s x n : ℕ) : Type 0 where
-  pub fits : n ≤ length moves
-  pub front : (k : ℕ) (m : Arrow) → StandsAt moves k m → k < n → Before m s x
-  pub rest : (k : ℕ) (m : Arrow) → StandsAt moves k m → n ≤ k → Before m s x → ⊥
 
 -- the least symbol that is `from` or more on which state s moves
 abbrev pub LeastSymbol : List Arrow → ℕ → ℕ → Option ℕ → Type 0

@@ -28,12 +28,12 @@ impl From<Stop> for UnfoldingFault {
     }
 }
 
-impl UnfoldingFault {
-    /// The number, layer and place of the fault.
-    pub fn refusal(self) -> Refusal
-        ensures { result ≡ refusal_of self }
-    {
-        let (number, place) = match self {
+/// The number, layer and place of the fault.
+impl From<UnfoldingFault> for Refusal {
+    ghost from_gives = { λ f r. r ≡ refusal_of f };
+
+    fn from(fault: UnfoldingFault) -> Refusal {
+        let (number, place) = match fault {
             UnfoldingFault::ClassUnfit(left) => (12, left),
             UnfoldingFault::NodeLimit(number) => (13, number),
             UnfoldingFault::MoveLimit(number) => (14, number),

@@ -10,7 +10,7 @@ use crate::moves::{least_symbol, target};
 use crate::node::Node;
 use finding::moves::Move;
 use finding::space::Space;
-use policy::stacks::Policy;
+use policy::stacks::{Policy, Push};
 use table::numbers::StateNo;
 
 /// The machine's moves, on symbols below a number, and the policy.
@@ -43,7 +43,12 @@ impl<'m, 'p, P: Policy> Space for Nodes<'m, 'p, P> {
 
     fn reach(&mut self, e: Node, x: u16) -> Option<Node> {
         let state = target(self.moves, e.state, x);
-        let class = self.policy.next(e.class, e.state, x, state)?;
+        let push = Push {
+            left: e.state,
+            symbol: x,
+            reached: state,
+        };
+        let class = self.policy.next(e.class, push)?;
         Some(Node { state, class })
     }
 }

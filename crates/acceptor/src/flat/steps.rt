@@ -10,10 +10,9 @@ ghost use Rattle.theory.specs.Subsets.{first_set, word_set};
 ghost use Rattle.pga.specs.Files.{Fit};
 ghost use Rattle.acceptor.specs.Rows.{arcs_of, jumps_of};
 ghost use Rattle.acceptor.specs.Flats.{acceptor_of};
-ghost use Rattle.acceptor.specs.Steps.{Grown, Wave, JumpedFrom, OverWord, NextWord, lesser_of};
+ghost use Rattle.acceptor.specs.Steps.{Grown, Wave, JumpedFrom, OverWord, NextWord};
 
 use crate::flat::Flat;
-use crate::rising::{Rows, seek};
 use table::numbers::NodeNo;
 use table::sets::NodeSet;
 
@@ -22,17 +21,6 @@ use table::sets::NodeSet;
 pub struct Reached {
     pub set: NodeSet,
     pub fresh: NodeSet,
-}
-
-/// The lesser of two numbers, of which either may not be there.
-fn lesser(a: Option<u16>, b: Option<u16>) -> Option<u16>
-    ensures { result ≡ lesser_of a b }
-{
-    match (a, b) {
-        (Some(x), Some(y)) => Some(x.min(y)),
-        (Some(x), None) => Some(x),
-        (None, _) => b,
-    }
 }
 
 impl Reached {
@@ -56,7 +44,8 @@ impl<'a> Flat<'a> {
         ensures reached { InOrder JumpLess (jumps_of self.now.jumps.bytes.now) → (k : ℕ) → Memᴰ (node.0, k) (jumps_of self.now.jumps.bytes.now)
             → k < 4096 → In reached.new.set.words k }
     {
-        for row in seek(&self.jumps, node.0, 0)..self.jumps.count() {
+        // By number: `seek` gives the first row's number, and chunks would be cut out and read by the same two calls.
+        for row in self.jumps.seek(node.0, 0)..self.jumps.count() {
             let (from, to) = self.jumps.key(row);
             if from != node.0 {
                 return;
@@ -72,10 +61,8 @@ impl<'a> Flat<'a> {
     {
         let fresh = reached.fresh;
         reached.fresh = NodeSet::empty();
-        let mut from = 0;
-        while let Some(node) = fresh.next_member(from) {
+        for node in fresh.iter() {
             self.take_jumps(node, reached);
-            from = node.0 + 1;
         }
     }
 
@@ -84,6 +71,7 @@ impl<'a> Flat<'a> {
         ensures { Fit (acceptor_of self.now) → (k : ℕ) → In result.words k ↔ JumpedFrom (acceptor_of self.now) set.words k }
     {
         let mut reached = Reached { set, fresh: set };
+        // No iterator: each wave makes the nodes of the next.
         while reached.fresh.size() > 0 {
             self.take_wave(&mut reached);
         }
@@ -105,10 +93,8 @@ impl<'a> Flat<'a> {
         ensures { Fit (acceptor_of self.now) → (k : ℕ) → In result.words k ↔ OverWord (arcs_of self.now.arcs.bytes.now) set.now.words word k }
     {
         let mut targets = NodeSet::empty();
-        let mut from = 0;
-        while let Some(node) = set.next_member(from) {
+        for node in set.iter() {
             self.take_arc(node, word, &mut targets);
-            from = node.0 + 1;
         }
         targets
     }
@@ -133,12 +119,8 @@ impl<'a> Flat<'a> {
     pub fn next_word(&self, set: &NodeSet, from: u16) -> Option<u16>
         ensures { Fit (acceptor_of self.now) → NextWord (acceptor_of self.now) (members set.now.words) from result }
     {
-        let mut least = None;
-        let mut next = 0;
-        while let Some(node) = set.next_member(next) {
-            least = lesser(least, self.arcs.next_word(node.0, from));
-            next = node.0 + 1;
-        }
-        least
+        set.iter()
+            .filter_map(|node| self.arcs.next_word(node.0, from))
+            .min()
     }
 }

@@ -23,10 +23,7 @@ impl<N: Number> NumberSet<N> {
         ensures { Decides result (In self.now.words (N.Number.value n)) }
     {
         let k = n.index();
-        if k >= 4096 {
-            return false;
-        }
-        (self.words[k / 64] >> (k % 64)) % 2 == 1
+        k < 4096 && (self.words[k / 64] >> (k % 64)) % 2 == 1
     }
 
     /// Makes `n` a member; 4096 and more are never members.
@@ -34,11 +31,9 @@ impl<N: Number> NumberSet<N> {
         ensures { Inserted self.old.words (N.Number.value n) self.new.words }
     {
         let k = n.index();
-        if k >= 4096 {
-            return;
+        if k < 4096 {
+            self.words[k / 64] |= 1 << (k % 64);
         }
-        let word = self.words[k / 64];
-        self.words[k / 64] = word | (1 << (k % 64));
     }
 
     /// How many members there are.
@@ -46,11 +41,10 @@ impl<N: Number> NumberSet<N> {
         ensures count { result ≡ length (members self.now.words) }
         ensures listed { Listed self.now.words (members self.now.words) }
     {
-        let mut count = 0;
-        for word in self.words.iter() {
-            count += word.count_ones() as usize;
-        }
-        count
+        self.words
+            .iter()
+            .map(|word| word.count_ones() as usize)
+            .sum()
     }
 
     /// The least member in the words from number `first` on.
@@ -58,13 +52,8 @@ impl<N: Number> NumberSet<N> {
         requires { first ≤ 64 }
         ensures { NextMember self.now.words (64 * first) result }
     {
-        for i in first..64 {
-            let word = self.words[i];
-            if word != 0 {
-                return Some(64 * i + word.trailing_zeros() as usize);
-            }
-        }
-        None
+        let i = (first..64).find(|i| self.words[*i] != 0)?;
+        Some(64 * i + self.words[i].trailing_zeros() as usize)
     }
 
     /// The index of the least member that is `from` or more.
@@ -85,9 +74,7 @@ impl<N: Number> NumberSet<N> {
     pub fn next_member(&self, from: u16) -> Option<N>
         ensures { NextMember self.now.words from (value_in N.Number.value result) }
     {
-        match self.next_index(from as usize) {
-            Some(k) => Some(N::from_index(k)),
-            None => None,
-        }
+        let k = self.next_index(from as usize)?;
+        Some(N::from_index(k))
     }
 }

@@ -29,7 +29,7 @@ pub returns-in_err-verdict : goal.returns-in_err-verdict
 returns-in_err-verdict g c = absurd (end_told g.A.Acceptor c.args.acceptor.now c.loop-word.invariant c.in_err-verdict.ensures)
 
 pub unreachable-requires : goal.unreachable-requires
-unreachable-requires g c = end_judged g.A.Acceptor c.args.acceptor.now c.loop-word.invariant c.in_ok-verdict.ensures c.in-Begun.is
+unreachable-requires g c = end_judged g.A.Acceptor c.args.acceptor.now c.loop-word.invariant c.in_ok-verdict.ensures c.in_default.not-Judged
 
 pub returns : goal.returns
 returns g c =

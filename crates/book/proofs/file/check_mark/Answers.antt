@@ -8,8 +8,8 @@ returns-then-file-lt-FRONT c = short c.if-file-lt-FRONT.true
 pub returns-then-not-starts_with : goal.returns-then-not-starts_with
 returns-then-not-starts_with c = mark (omega arith) (search rules)
 
-pub returns-then-file-ne-VERSION : goal.returns-then-file-ne-VERSION
-returns-then-file-ne-VERSION c = version (omega arith) (search rules) (search rules)
+pub returns-then-from_le_bytes-ne-VERSION : goal.returns-then-from_le_bytes-ne-VERSION
+returns-then-from_le_bytes-ne-VERSION c = version (omega arith) (search rules) (λ e. c.if-from_le_bytes-ne-VERSION.true (omega arith))
 
 pub returns-then-file-eq0 : goal.returns-then-file-eq0
 returns-then-file-eq0 c = half (omega arith) (search rules) (omega arith) (omega arith)

@@ -1,5 +1,4 @@
-use Rattle.std.proofs.Common.{◌≡◌, ℕ, ◌-◌, ◌<◌, List, ◌++◌, length, take, drop, Ok, sym, refl, ap, ◌∙◌, subst, arith}
-use native.Mathlib.Nat.{sub-zero}
+use Rattle.std.proofs.Common.{ℕ, ◌-◌, ◌<◌, List, length, take, drop, Ok, refl, ap, ◌∙◌, subst, arith}
 use Rattle.std.specs.List.{AllByRecursion}
 use Rattle.std.proofs.lemmas.List.{take_rest, length-drop, length-take-le}
 use Rattle.std.proofs.ByRecursion.{All-from_get_or}
@@ -7,7 +6,7 @@ use Rattle.std.proofs.lemmas.Result.{err_from_is_err_and}
 use Rattle.book.specs.Reading.{numbers}
 use Rattle.book.specs.Refusals.{refusal, told}
 use Rattle.book.specs.Flaws.{TableFault}
-use Rattle.book.specs.Files.{LoadFault, FromFile}
+use Rattle.book.specs.Files.{LoadFault}
 use Rattle.book.specs.Files.LoadFault.{marked, book, left_over, no_room}
 use Rattle.book.specs.Checks.{Checked}
 use Rattle.book.specs.declared.reader.Summary.{Summary}
@@ -61,8 +60,7 @@ read_numbers-requires c =
     let k = rest_known file _ c.in_ok-used.ensures in
     let w = c.in_ok-check_mark.ensures.whole in
     let n = c.in_ok-used.field-0.used in
-    let l : length (take (n - 0) t) ≡ n = ap (λ m. length (take m t)) (sub-zero n) ∙ length-take-le n t (omega arith) in
-    omega (arith, l, length_numbers (drop 5 file), length-drop 5 file, ap length (take_rest file 5), (known_bounds k).5)
+    omega (arith, length-take-le n t (omega arith), length_numbers (drop 5 file), length-drop 5 file, ap length (take_rest file 5), (known_bounds k).5)
 
 pub returns : goal.returns
 returns c =
@@ -72,7 +70,6 @@ returns c =
     let u = k.takes in
     let n = c.in_ok-used.field-0.used in
     let bytes : AllByRecursion (λ b. b < 256) file = All-from_get_or (λ b. b < 256) file 0 (λ i h. omega (arith, c.type_inv.file i)) in
-    subst (λ m. FromFile file t (c.read_numbers.new.out ++ drop m t) n) (sym (sub-zero n))
-    (loaded file t _ k.grammar n c.in_ok-check_mark.ensures bytes k.holds
+    loaded file t _ k.grammar n c.in_ok-check_mark.ensures bytes k.holds
     (omega (arith, length_numbers (drop 5 file), length-drop 5 file, ap length (take_rest file 5), (known_bounds k).5)) u
-    (c.read_numbers.ensures ∙ ap numbers (take_rest file 5)))
+    (c.read_numbers.ensures ∙ ap numbers (take_rest file 5))

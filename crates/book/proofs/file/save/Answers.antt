@@ -1,8 +1,7 @@
-use Rattle.std.proofs.Common.{◌+◌, ◌*◌, ◌++◌, length, take, drop, sym, refl, ap, subst, arith}
-use native.Mathlib.Nat.{sub-zero}
+use Rattle.std.proofs.Common.{◌+◌, ◌*◌, length, refl, subst, arith}
 use Rattle.std.proofs.lemmas.Result.{err_from_is_err_and}
 use Rattle.book.specs.Refusals.{told}
-use Rattle.book.specs.Files.{SaveFault, ToFile}
+use Rattle.book.specs.Files.{SaveFault}
 use Rattle.book.specs.Files.SaveFault.{book, short}
 use Rattle.book.proofs.Held.{known, known_bounds}
 use Rattle.book.proofs.Filed.{saved}
@@ -16,9 +15,6 @@ returns-in_err-used c =
 pub overflow_mul-needed : goal.overflow_mul-needed
 overflow_mul-needed c = omega (arith, (known_bounds (known _ _ c.in_ok-used.ensures.checked)).0)
 
-pub overflow_add-needed : goal.overflow_add-needed
-overflow_add-needed c = omega (arith, (known_bounds (known _ _ c.in_ok-used.ensures.checked)).0)
-
 pub returns-then-file-needed : goal.returns-then-file-needed
 returns-then-file-needed c =
     let k = known _ _ c.in_ok-used.ensures.checked in
@@ -28,9 +24,6 @@ returns-then-file-needed c =
       refl,
     )
 
-pub slice_bounds-write_file-end : goal.slice_bounds-write_file-end
-slice_bounds-write_file-end c = omega (arith, (known_bounds (known _ _ c.in_ok-used.ensures.checked)).5)
-
 pub returns : goal.returns
 returns c =
     let k = known _ _ c.in_ok-used.ensures.checked in
@@ -38,5 +31,4 @@ returns c =
     let out = c.args.file.now in
     let u = c.in_ok-used.field-0.used in
     let n = 5 + 2 * u in
-    subst (λ m. ToFile t out (c.write_file.new.out ++ drop m out) n) (sym (sub-zero n))
-    (saved t out _ _ k.grammar u n k.holds k.takes refl (ap (λ m. take m t) (sub-zero u)) c.write_file.ensures)
+    saved t out _ _ k.grammar u n k.holds k.takes refl refl c.write_file.ensures

@@ -1,19 +1,28 @@
-use Rattle.std.proofs.Common.{length, ap, arith}
-use Rattle.std.proofs.lemmas.List.{length-take}
-use Rattle.book.proofs.Walk.{walk_inside, walk_more, walk_all}
+use Rattle.std.proofs.Common.{rules}
+use Rattle.std.proofs.lemmas.Iterator.{cases_from_all}
+use Rattle.std.proofs.lemmas.Iterator.Consumers.{YieldsList-from_first}
+use Rattle.book.specs.declared.rules.Rules.{Rules}
+use Rattle.book.specs.declared.rules.TableRule.{TableRule}
+use Rattle.book.specs.Grammar.{rule}
+use Rattle.book.specs.Reading.{rules_in}
+use Rattle.book.specs.Shapes.{LeftSide, RightSide}
+use Rattle.book.proofs.Held.{known}
+use Rattle.book.proofs.EachRule.{left_decided, right_decided}
 use Rattle.book.proofs.linear.shape.Goals as goal
 
-pub side_at-side-requires : goal.side_at-side-requires
-side_at-side-requires c = walk_inside c.loop-i.invariant (omega arith)
-
-pub overflow_add-at-in-loop-i : goal.overflow_add-at-in-loop-i
-overflow_add-at-in-loop-i c =
-    let w = walk_inside c.loop-i.invariant (omega arith) in
-    omega (arith, w.1, simp length-take at (ap length c.side_at-side.ensures))
-
-pub loop-i-preserved : goal.loop-i-preserved
-loop-i-preserved c =
-    walk_more c.loop-i.invariant (omega arith) _ _ _ c.side_at-side.ensures c.left_side-left_linear.ensures c.right_side-right_linear.ensures
-
 pub returns : goal.returns
-returns c = walk_all c.loop-i.invariant (omega arith)
+returns c =
+    let k = known _ _ c.in_ok-book.ensures.checked in
+    let g = k.grammar in
+    let words = c.in_ok-book.book.words in (
+      g,
+      k.holds,
+      left_decided g words c.all.result k.words
+          (cases_from_all c.all.new.self _ _ (λ r. LeftSide words r.right) (λ r. LeftSide words r.right → ⊥) c.all.ensures.ran
+          (YieldsList-from_first (λ (r : TableRule). rule r.left r.right.now) (λ (s : Rules). rules_in s.count s.entries.now) g.rules (c.of.ensures g k.holds))
+          (λ x q m. (search rules, search rules)) (λ x q m. search rules)),
+      right_decided g words c.all-2.result k.words
+          (cases_from_all c.all-2.new.self _ _ (λ r. RightSide words r.right) (λ r. RightSide words r.right → ⊥) c.all-2.ensures.ran
+          (YieldsList-from_first (λ (r : TableRule). rule r.left r.right.now) (λ (s : Rules). rules_in s.count s.entries.now) g.rules (c.of-2.ensures g k.holds))
+          (λ x q m. (search rules, search rules)) (λ x q m. search rules)),
+    )

@@ -1,7 +1,6 @@
-use Rattle.std.proofs.Common.{◌≡◌, ◌+◌, ◌*◌, length}
 use Rattle.std.specs.List.{AllByRecursion}
 use Rattle.fields.specs.Flaws.{Passes, rows}
 use Rattle.fields.proofs.check.check_rows.Given as goal
 
 abbrev pub invariant-loop-k : goal.invariant-loop-k
-invariant-loop-k l = (l.at ≡ l.start + 2 * length l.limits * l._k) × AllByRecursion (Passes l.file) (rows l.start l.limits l._k)
+invariant-loop-k l = AllByRecursion (Passes l.file) (rows l.start l.limits l.k)

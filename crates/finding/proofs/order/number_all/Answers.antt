@@ -40,7 +40,7 @@ loop-i-preserved g c =
     let i = c.loop-i.invariant in
     let here = same_bounds g.S.Space.sought i.0 c.loop-i.auto.rows c.loop-i.auto.moves in
     let k = c.in_ok-found.ensures in
-    (c.visit.ensures.source ∙ i.0, k.held.0, omega (arith, k.held.1, c.loop-i-test.true), goes_on i.3 here k.turns)
+    (c.visit.ensures.source ∙ i.0, k.held, omega (arith, k.more, c.loop-i-test.true), goes_on i.3 here k.turns)
 
 pub returns : goal.returns
 returns g c =

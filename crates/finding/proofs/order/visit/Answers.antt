@@ -27,7 +27,7 @@ returns-in_err-found g c =
     let s = stands_read c.loop-y.rows c.loop-y.found.entries c.args.i c.index-rows-i.result (omega (arith, i.2, c.requires.here)) i.1.entries_fit c.index-rows-i.is in
     let same = same_bounds g.S.Space.sought i.0 c.loop-y.auto.rows c.loop-y.auto.moves in
     let p = err_from_is_err_and c.from_residual.result c.from_residual.ensures.1 in
-    rw (p.1, p.2) (record { source = c.take_move.ensures.source ∙ i.0; held = tt; turns = stops (g.S.Space.sought (g.S.Space.source c.loop-y.space)) (g.S.Space.thing c.loop-y.space) g.N.Number.value c.loop-y.rows c.loop-y.found.entries c.loop-y.moves c.loop-y.found.moves c.args.i c.loop-y.x c.index-rows-i.result _ _ same s i.3 i.4 c.in-Some.ensures c.in_err-found.ensures.turn })
+    rw (p.1, p.2) (record { source = c.take_move.ensures.source ∙ i.0; held = tt; more = tt; turns = stops (g.S.Space.sought (g.S.Space.source c.loop-y.space)) (g.S.Space.thing c.loop-y.space) g.N.Number.value c.loop-y.rows c.loop-y.found.entries c.loop-y.moves c.loop-y.found.moves c.args.i c.loop-y.x c.index-rows-i.result _ _ same s i.3 i.4 c.in-Some.ensures c.in_err-found.ensures.turn })
 
 pub loop-y-preserved : goal.loop-y-preserved
 loop-y-preserved g c =
@@ -36,11 +36,11 @@ loop-y-preserved g c =
     let same = same_bounds g.S.Space.sought i.0 c.loop-y.auto.rows c.loop-y.auto.moves in
     let k = c.in_ok-found.ensures in
     let src = c.take_move.ensures.source in
-    (src ∙ i.0, k.held.0, omega (arith, k.held.1, i.2), omega (arith, c.in-Some.ensures.3.0, ap (λ (y : g.S.Space.Source). (g.S.Space.sought y).symbols) src), on (g.S.Space.sought (g.S.Space.source c.loop-y.space)) (g.S.Space.thing c.loop-y.space) g.N.Number.value c.loop-y.rows c.loop-y.found.entries c.loop-y.moves c.loop-y.found.moves c.args.i c.loop-y.x c.index-rows-i.result _ _ same s i.3 i.4 c.in-Some.ensures k.turn)
+    (src ∙ i.0, k.held, omega (arith, k.more, i.2), omega (arith, c.in-Some.ensures.3.0, ap (λ (y : g.S.Space.Source). (g.S.Space.sought y).symbols) src), on (g.S.Space.sought (g.S.Space.source c.loop-y.space)) (g.S.Space.thing c.loop-y.space) g.N.Number.value c.loop-y.rows c.loop-y.found.entries c.loop-y.moves c.loop-y.found.moves c.args.i c.loop-y.x c.index-rows-i.result _ _ same s i.3 i.4 c.in-Some.ensures k.turn)
 
 pub returns : goal.returns
 returns g c =
     let i = c.loop-y.invariant in
     let s = stands_read c.loop-y.rows c.loop-y.found.entries c.args.i c.index-rows-i.result (omega (arith, i.2, c.requires.here)) i.1.entries_fit c.index-rows-i.is in
     let same = same_bounds g.S.Space.sought i.0 c.loop-y.auto.rows c.loop-y.auto.moves in
-    record { source = i.0; held = (i.1, i.2); turns = over (g.S.Space.sought (g.S.Space.source c.loop-y.space)) (g.S.Space.thing c.loop-y.space) g.N.Number.value c.loop-y.rows c.loop-y.found.entries c.loop-y.moves c.loop-y.found.moves c.args.i c.loop-y.x c.index-rows-i.result _ _ same s i.3 i.4 c.in_default.ensures }
+    record { source = i.0; held = i.1; more = i.2; turns = over (g.S.Space.sought (g.S.Space.source c.loop-y.space)) (g.S.Space.thing c.loop-y.space) g.N.Number.value c.loop-y.rows c.loop-y.found.entries c.loop-y.moves c.loop-y.found.moves c.args.i c.loop-y.x c.index-rows-i.result _ _ same s i.3 i.4 c.in_default.ensures }

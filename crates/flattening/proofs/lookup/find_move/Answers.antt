@@ -1,25 +1,30 @@
-use Rattle.std.proofs.Common.{sym, ◌∙◌, ⊎_elim, arith}
-use Rattle.flattening.proofs.Halving.{read_at}
-use Rattle.flattening.proofs.Targets.{rows_rise, none_past, none_else, one_here}
+use Rattle.std.proofs.Common.{◌≡◌, map, arith}
+use Rattle.std.proofs.lemmas.Bool.Decides.{nat_tests}
+use Rattle.std.proofs.lemmas.List.{length-map}
+use Rattle.finding.specs.Finding.{arrow}
+use Rattle.finding.proofs.Seeking.{arrow_read}
+use Rattle.flattening.proofs.Targets.{none_past, none_else, one_here}
 use Rattle.flattening.proofs.lookup.find_move.Goals as goal
 
-pub place_of-at-requires : goal.place_of-at-requires
-place_of-at-requires g c = rows_rise g.N.Number.value c.args.moves.now c.requires
+pub returns-in_err-found : goal.returns-in_err-found
+returns-in_err-found g c =
+    let v = g.N.Number.value in
+    rw c.from_residual.ensures
+    (none_past (map (arrow v) c.args.moves.now) c.requires (v c.args.from) c.args.symbol c.seek.result c.seek.ensures (omega (arith, c.in_err-found.ensures.lookup.3, length-map c.args.moves.now (arrow v))))
 
-pub returns-then-at-moves : goal.returns-then-at-moves
-returns-then-at-moves g c = none_past g.N.Number.value c.args.moves.now c.requires c.args.from c.args.symbol _ _ c.place_of-at.ensures (omega arith)
+pub returns-then-eq : goal.returns-then-eq
+returns-then-eq g c =
+    let v = g.N.Number.value in
+    let m = c.in_ok-found.found.now in
+    let found = c.in_ok-found.ensures.lookup in
+    let is : (v m.from ≡ v c.args.from) × (m.symbol ≡ c.args.symbol) = grind (arith, nat_tests) in
+    one_here (map (arrow v) c.args.moves.now) c.requires (v c.args.from) c.args.symbol c.seek.result c.seek.ensures (arrow v m)
+    (arrow_read v c.args.moves.now c.seek.result m found.3.0 found.1) is.0 is.1
 
-pub returns-then-index : goal.returns-then-index
-returns-then-index g c =
-    let x = c.index-moves-at.result in
-    let p = c.index.ensures.value in let q = c.index-2.ensures.value in
-    none_else g.N.Number.value c.args.moves.now c.requires c.args.from c.args.symbol _ _ c.place_of-at.ensures x
-    (read_at c.args.moves.now _ x (omega arith) c.index-moves-at.is)
-    (λ f s. ⊎_elim (λ n. n (p ∙ f ∙ sym q)) (λ h. h.1 s) c.then-index.either)
-
-pub returns : goal.returns
-returns g c =
-    let x = c.index-moves-at.result in
-    one_here g.N.Number.value c.args.moves.now c.requires c.args.from c.args.symbol _ _ c.place_of-at.ensures x
-    (read_at c.args.moves.now _ x (omega arith) c.index-moves-at.is)
-    (sym c.index.ensures.value ∙ c.if-index.false ∙ c.index-2.ensures.value) c.if-found-symbol.false
+pub returns-else-eq : goal.returns-else-eq
+returns-else-eq g c =
+    let v = g.N.Number.value in
+    let m = c.in_ok-found.found.now in
+    let found = c.in_ok-found.ensures.lookup in
+    none_else (map (arrow v) c.args.moves.now) c.requires (v c.args.from) c.args.symbol c.seek.result c.seek.ensures (arrow v m)
+    (arrow_read v c.args.moves.now c.seek.result m found.3.0 found.1) (λ e f. grind (arith, nat_tests))

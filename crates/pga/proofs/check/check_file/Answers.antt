@@ -1,11 +1,38 @@
-use Rattle.std.proofs.Common.{◌<◌, arith}
-use Rattle.std.specs.List.{AllByRecursion}
-use Rattle.std.proofs.ByRecursion.{All-from_get_or}
-use Rattle.pga.proofs.Unique.{checked, only_checked}
+use Rattle.std.proofs.Common.{Ok, Err}
+use Rattle.std.proofs.lemmas.Result.{err_from_is_err_and}
+use Rattle.fields.proofs.Judging.{first_left}
+use Rattle.pga.proofs.Parts.{arcs_fault, jumps_fault, end_fault, whole_passes}
+use Rattle.pga.proofs.Unique.{answered}
 use Rattle.pga.proofs.check.check_file.Goals as goal
+
+pub returns-in_err-header : goal.returns-in_err-header
+returns-in_err-header c =
+    let p = err_from_is_err_and c.from_residual.result c.from_residual.ensures.1 in
+    answered c.args.file.now c.type_inv.file _ (rw (p.1, p.2) (first_left c.args.file.now c.in_err-header.ensures _))
+
+pub returns-in_err-jumps_at : goal.returns-in_err-jumps_at
+returns-in_err-jumps_at c =
+    let p = err_from_is_err_and c.from_residual-in_err-jumps_at.result c.from_residual-in_err-jumps_at.ensures.1 in
+    answered c.args.file.now c.type_inv.file _
+    (rw (p.1, p.2) (arcs_fault c.args.file.now _ c.in_ok-header.ensures c.in_err-jumps_at.ensures))
+
+pub returns-in_err-end : goal.returns-in_err-end
+returns-in_err-end c =
+    let p = err_from_is_err_and c.from_residual-in_err-end.result c.from_residual-in_err-end.ensures.1 in
+    let arcs = c.in_ok-jumps_at.ensures in
+    answered c.args.file.now c.type_inv.file _
+    (rw (p.1, p.2) (jumps_fault c.args.file.now _ c.in_ok-header.ensures arcs.1 arcs.0 c.in_err-end.ensures))
+
+pub returns-then-file-end : goal.returns-then-file-end
+returns-then-file-end c =
+    let arcs = c.in_ok-jumps_at.ensures in
+    let jumps = c.in_ok-end.ensures in
+    answered c.args.file.now c.type_inv.file (Err (record { place = c.in_ok-end.end }))
+    (end_fault c.args.file.now _ c.in_ok-header.ensures arcs.1 jumps.1 arcs.0 jumps.0 c.if-file-end.true)
 
 pub returns : goal.returns
 returns c =
-    let bytes = c.args.file.now in
-    let small : AllByRecursion (λ b. b < 256) bytes = All-from_get_or (λ b. b < 256) bytes 0 (λ i h. omega (arith, c.type_inv.file i)) in
-    record { checked = checked bytes small _ c.check_parts.ensures; only = only_checked bytes small _ c.check_parts.ensures }
+    let arcs = c.in_ok-jumps_at.ensures in
+    let jumps = c.in_ok-end.ensures in
+    let sound = whole_passes c.args.file.now _ c.in_ok-header.ensures arcs.1 jumps.1 arcs.0 jumps.0 c.if-file-end.false in
+    answered c.args.file.now c.type_inv.file (Ok c.in_ok-header.header) (sound, c.in_ok-header.ensures)

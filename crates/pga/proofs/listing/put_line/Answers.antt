@@ -1,31 +1,27 @@
-use Rattle.std.proofs.Common.{[], ◌∷◌, decimal, arith}
-use Rattle.std.specs.List.{flat_map}
-use Rattle.pga.specs.Listing.{next_number}
-use Rattle.fields.proofs.Putting.{put_none, put_then, put_all}
-use Rattle.pga.proofs.Text.{next_put}
+use Rattle.std.proofs.Common.{sym, subst, arith}
+use Rattle.std.proofs.lemmas.List.{take_all}
+use Rattle.fields.specs.Putting.{Puts}
+use Rattle.fields.proofs.Putting.{puts_then}
+use Rattle.pga.proofs.Text.{parted, parted_more, parted_line, length_parted}
 use Rattle.pga.proofs.listing.put_line.Goals as goal
 
-pub loop-number-init : goal.loop-number-init
-loop-number-init c = (put_none _ _, omega arith)
+pub put_next-requires : goal.put_next-requires
+put_next-requires c = omega (arith, c.loop-i.invariant.put.ends, length_parted c.args.numbers.now c.loop-i.i (λ k. omega (arith, c.type_inv.numbers k)))
 
-pub put_byte-end-requires : goal.put_byte-end-requires
-put_byte-end-requires c = omega (arith, c.loop-number.invariant.1)
+pub loop-i-preserved : goal.loop-i-preserved
+loop-i-preserved c =
+    let more = parted_more c.args.numbers.now c.loop-i.i 0 (omega arith) in
+    subst (λ t. Puts c.args.out.now t c.put_next.new.out) (sym more) (puts_then _ _ _ _ _ c.loop-i.invariant c.put_next.ensures)
 
-pub loop-number-preserved : goal.loop-number-preserved
-loop-number-preserved c = (
-  next_put c.args.rest.now c.loop-number.number-index 0
-      c.put_decimal-end.new.out c.loop-number.out c.put_byte-end.new.out _ _ _ _ _
-      (omega arith) (omega arith) (omega arith) c.loop-number.invariant.0 c.put_byte-end.ensures c.put_decimal-end-in-loop-number.ensures.put,
-  omega (arith, c.loop-number.invariant.1),
-)
+pub byte-requires : goal.byte-requires
+byte-requires c = omega (arith, c.loop-i.invariant.put.ends, length_parted c.args.numbers.now c.loop-i.i (λ k. omega (arith, c.type_inv.numbers k)))
 
-pub returns : goal.returns
-returns c =
-    let rest = c.args.rest.now in
-    let all = put_all next_number rest c.loop-number.number-index _ _ _ _ (omega arith) c.loop-number.invariant.0 in
-    let numbers = put_then c.args.out.now c.put_decimal-end.new.out c.loop-number.out _ _ _ (decimal c.args.first) (flat_map next_number rest)
-    (omega arith) c.put_decimal-end.ensures.put all in
-    record {
-      put = put_then c.args.out.now c.loop-number.out c.put_byte.new.out _ _ _ _ (10 ∷ []) (omega arith) numbers c.put_byte.ensures;
-      short = omega (arith, c.loop-number.invariant.1);
-    }
+pub returns-clause-puts : goal.returns-clause-puts
+returns-clause-puts c =
+    let ns = c.args.numbers.now in
+    let all = subst (λ l. Puts c.args.out.now (parted l) c.loop-i.out) (take_all c.loop-i.i ns (omega arith)) c.loop-i.invariant in
+    subst (λ t. Puts c.args.out.now t c.byte.new.self) (parted_line ns) (puts_then _ _ _ _ _ all c.byte.ensures)
+
+pub returns-clause-short : goal.returns-clause-short
+returns-clause-short c =
+    omega (arith, c.loop-i.invariant.put.ends, c.byte.ensures.put.ends, length_parted c.args.numbers.now c.loop-i.i (λ k. omega (arith, c.type_inv.numbers k)))

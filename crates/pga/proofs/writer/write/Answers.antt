@@ -1,14 +1,19 @@
-use Rattle.std.proofs.Common.{◌≡◌, length, codes, refl, ap, arith}
+use Rattle.std.proofs.Common.{◌≡◌, length, refl, ap, subst, arith, rules}
+use Rattle.std.specs.List.{flat_map}
 use Rattle.std.proofs.lemmas.List.{length-map}
+use Rattle.book.specs.Files.{bytes_of}
 use Rattle.book.proofs.Numbers.{length_bytes}
-use Rattle.theory.specs.Flattening.{word_moves}
+use Rattle.theory.specs.Flattening.{file_length, word_moves}
 use Rattle.flattening.specs.Orders.{pair}
 use Rattle.flattening.specs.Walks.{arrows}
-use Rattle.fields.proofs.Arcs.{length_arc_bytes, put_mark}
-use Rattle.pga.specs.Files.{header_numbers}
+use Rattle.fields.specs.Putting.{Puts}
+use Rattle.fields.proofs.Putting.{puts_front}
+use Rattle.fields.proofs.Files.{file_written}
+use Rattle.fields.proofs.Arcs.{length_arc_bytes}
+use Rattle.pga.specs.Files.{header_numbers, file_of, Fit}
 use Rattle.pga.specs.Writing.{acceptor}
-use Rattle.pga.proofs.Arcs.{arcs_few}
-use Rattle.pga.proofs.Written.{file_put, file_written}
+use Rattle.pga.proofs.Arcs.{puts_words, arcs_few}
+use Rattle.pga.proofs.Written.{length_file, file_puts}
 use Rattle.pga.proofs.writer.write.Goals as goal
 
 pub overflow_mul-needed : goal.overflow_mul-needed
@@ -26,18 +31,21 @@ returns-then-out-needed c =
     let l = length-map c.args.parts.jumps.now pair in
     (omega arith, omega arith, refl)
 
-pub header_of-header-requires : goal.header_of-header-requires
-header_of-header-requires c = (omega (arith, c.count_arcs-arcs.ensures, arcs_few c.args.parts.words c.args.parts.moves.now), omega arith)
+pub header_of-requires : goal.header_of-requires
+header_of-requires c = (omega (arith, c.count_arcs-arcs.ensures, arcs_few c.args.parts.words c.args.parts.moves.now), omega arith)
 
 pub put_jumps-requires : goal.put_jumps-requires
 put_jumps-requires c =
     let words = c.args.parts.words in
     let moves = c.args.parts.moves.now in
-    let header = c.header_of-header.result in (
+    let arcs = puts_words words moves _ _ _ (λ m r t. search rules) c.arcs.ensures in (
       omega (
         arith,
-        length_bytes header,
-        ap length c.header_of-header.ensures,
+        c.text.ensures.put.ends,
+        c.numbers.ensures.put.ends,
+        arcs.put.ends,
+        length_bytes c.header_of.result,
+        ap length c.header_of.ensures,
         length_arc_bytes (word_moves words (arrows moves)),
         arcs_few words moves,
       ),
@@ -49,11 +57,11 @@ returns c =
     let a = acceptor c.args.parts.words c.args.parts.nodes c.args.parts.final_node c.args.parts.moves.now c.args.parts.jumps.now in
     let arcs = c.count_arcs-arcs.ensures in
     let jumps = length-map c.args.parts.jumps.now pair in
-    let header = c.header_of-header.result in
-    let is = c.header_of-header.ensures in
-    let same : header ≡ header_numbers a = cc in
-    file_written a c.args.out.now c.put_jumps.new.out c.put_jumps.result (omega arith)
-    (file_put a header c.args.out.now _ c.put_numbers-arcs_at.new.out c.put_arcs-jumps_at.new.out c.put_jumps.new.out _ _ _ same
-    (omega arith) (omega arith) (omega arith)
-    (put_mark c.args.out.now _ (codes "PGA") c.copy_from_slice.ensures.after refl) c.put_numbers-arcs_at.ensures
-    c.put_arcs-jumps_at.ensures c.put_jumps.ensures)
+    let is = c.header_of.ensures in
+    let same : c.header_of.result ≡ header_numbers a = cc in
+    let moves = puts_words c.args.parts.words c.args.parts.moves.now _ _ _ (λ m r t. search rules) c.arcs.ensures in
+    let header = subst (λ h. Puts c.text.new.self (flat_map bytes_of h) c.numbers.new.self) same c.numbers.ensures in
+    let whole = file_puts a c.new-output.result _ _ _ _ c.text.ensures header moves c.put_jumps.ensures in
+    file_written Fit file_of file_length a c.args.out.now _ c.place.result (length_file a) (omega arith)
+    (puts_front c.new-output.result c.put_jumps.new.out (file_of a) c.args.out.now _ c.place.result c.new-output.ensures.bytes c.new-output.ensures.place
+    (let kept = whole.lent in search rules) c.place.ensures whole)

@@ -1,12 +1,10 @@
-use Rattle.std.proofs.Common.{◌≡◌, sym, ap, ◌∙◌, arith}
-use mathlib.Core.Option.{some}
-use Rattle.table.proofs.Lists.{stands_getD, lacks_read}
+use Rattle.std.proofs.Common.{rules, ◌≡◌, true, false}
+use borrow.Author.Tests.{tests}
+use Rattle.std.proofs.lemmas.Iterator.{YieldsList-from_slice, IsFirst-from_position}
+use Rattle.table.proofs.Found.{looked}
 use Rattle.table.proofs.entries.find.Goals as goal
 
-pub returns-then-eq : goal.returns-then-eq
-returns-then-eq g c =
-    let e : c.index-rows-i.result ≡ c.args.e.now = (c.requires _ _ _ c.eq.ensures).0 c.if-eq.true in
-    stands_getD c.args.rows.now c.loop-i.i c.index-rows-i.result (omega arith) ∙ ap some (sym c.index-rows-i.is ∙ e)
-
 pub returns : goal.returns
-returns g c = lacks_read c.args.rows.now c.loop-i.i c.args.e.now (omega arith) c.loop-i.invariant
+returns g c =
+    looked g.E.PartialEq.eq c.requires c.args.rows.now c.args.e.now c.position.result
+    (IsFirst-from_position _ _ c.position.result (λ x. true ≡ g.E.PartialEq.eq x c.args.e.now) (λ x. false ≡ g.E.PartialEq.eq x c.args.e.now) c.position.ensures.ran (YieldsList-from_slice c.args.rows.now c.iter.ensures.rest) (λ x q k. search (rules, tests)) (λ x q k. search (rules, tests)))

@@ -1,21 +1,21 @@
-use Rattle.std.proofs.Common.{◌+◌, sym, subst, arith}
-use Rattle.acceptor.specs.Rows.{arcs_of, LeastOf}
+use Rattle.std.proofs.Common.{min, sym, ap, ◌∙◌, rules, tests}
+use Rattle.std.specs.List.{reduce, filter_map}
+use Rattle.std.proofs.lemmas.Iterator.Adapters.{option_map_id}
+use Rattle.std.proofs.lemmas.Iterator.Consumers.{YieldsList-at, YieldsList-from_filter_map, min_from_yields_List}
+use Rattle.table.specs.declared.numbers.NodeNo.{NodeNo}
+use Rattle.table.proofs.Members.{walk_road}
+use Rattle.acceptor.specs.Rows.{arcs_of}
 use Rattle.acceptor.specs.Flats.{acceptor_of}
-use Rattle.acceptor.proofs.Least.{LeavesBelow, least_more, next_word}
+use Rattle.acceptor.proofs.Least.{least_word, word_is, next_word}
 use Rattle.acceptor.proofs.flat.Flat.next_word.Goals as goal
-
-pub loop-node-preserved : goal.loop-node-preserved
-loop-node-preserved c =
-    let arcs = arcs_of c.args.self.now.arcs.bytes.now in
-    let row = c.args.set.now.words in
-    let k = c.in-Some.node.0 in
-    let next = c.in-Some.ensures in (
-      omega (arith, next.1),
-      λ fit. subst (LeastOf (LeavesBelow arcs row (k + 1)) c.args.from) (sym c.lesser-least.ensures)
-          (least_more arcs row c.loop-node.next k c.args.from c.loop-node.least c.next_word.result next (c.loop-node.invariant.1 fit) (c.next_word.ensures fit.arcs_rise)),
-    )
 
 pub returns : goal.returns
 returns c = λ fit.
-    next_word (acceptor_of c.args.self.now) fit c.args.set.now.words c.args.set.now.row c.loop-node.next c.in_default.ensures c.args.from c.loop-node.least
-    (c.loop-node.invariant.1 fit)
+    let word = least_word (arcs_of c.args.self.now.arcs.bytes.now) c.args.from in
+    let is = word_is (arcs_of c.args.self.now.arcs.bytes.now) c.args.from fit.arcs_rise in
+    next_word (acceptor_of c.args.self.now) fit _ c.args.from c.min.result
+    (sym (option_map_id c.min.result)
+    ∙ min_from_yields_List _ _ c.min.ensures.ran
+    (YieldsList-from_filter_map _ word (YieldsList-at c.filter_map.ensures.source (walk_road (λ (n : NodeNo). n.0) c.iter.result)) c.filter_map.ensures.closure
+    (λ x r q k. search (rules, tests, is)))
+    ∙ ap (λ l. reduce min (filter_map word l)) c.iter.ensures.all)

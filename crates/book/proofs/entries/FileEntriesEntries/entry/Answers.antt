@@ -1,11 +1,13 @@
-use Rattle.std.proofs.Common.{sym, arith}
-use Rattle.book.proofs.Numbers.{length_numbers, getD_numbers}
+use Rattle.std.proofs.Common.{map, sym, ap, ◌∙◌, subst, [], arith}
+use Rattle.std.specs.Int.{w16, from_le_bytes}
+use Rattle.std.proofs.lemmas.List.{length-map, get_or-map}
+use Rattle.std.proofs.lemmas.Grind.{common_steps}
+use Rattle.book.specs.Reading.{EntryAt}
+use Rattle.book.proofs.Numbers.{numbers_pairs}
 use Rattle.book.proofs.entries.FileEntriesEntries.entry.Goals as goal
 
-pub returns-then-i-self : goal.returns-then-i-self
-returns-then-i-self c =
-    let bytes = c.args.self.now.0.now in
-    (omega (arith, length_numbers bytes), sym (getD_numbers bytes c.args.i (omega arith)))
-
-pub returns-else-i-self : goal.returns-else-i-self
-returns-else-i-self c = omega (arith, length_numbers c.args.self.now.0.now)
+pub returns : goal.returns
+returns c =
+    let pairs = c.as_chunks.result.0.now in
+    subst (λ l. EntryAt l c.args.i c.map.result) (ap (map (from_le_bytes w16)) c.as_chunks.ensures.front ∙ sym (numbers_pairs c.args.self.now.0.now))
+    (grind (arith, common_steps, length-map pairs (from_le_bytes w16), get_or-map (from_le_bytes w16) pairs c.args.i [] 0))

@@ -4,12 +4,6 @@ use Rattle.theory.specs.Closure.Closed.{kernel}
 use Rattle.machine.proofs.Seeding.{closes}
 use Rattle.machine.proofs.items.Items.close.Goals as goal
 
-pub open_all-requires : goal.open_all-requires
-open_all-requires c =
-    let (g, of, k) = c.requires in
-    let K = members c.args.kernel.now.words in
-    record { named = (g, K, of, c.seed-at.ensures.within g K of (λ j h. kernel (in_members _ c.args.kernel.now.row j h) (k j h))); notes = c.seed-at.ensures.notes }
-
 pub returns : goal.returns
 returns c g of k =
     let K = members c.args.kernel.now.words in

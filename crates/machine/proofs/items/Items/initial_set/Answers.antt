@@ -2,9 +2,6 @@ use Rattle.std.proofs.Common.{◌∙◌}
 use Rattle.machine.proofs.Initial.{zero_kernel, zero_closure}
 use Rattle.machine.proofs.items.Items.initial_set.Goals as goal
 
-pub close-requires : goal.close-requires
-close-requires c = (c.requires.0, c.requires.1, zero_kernel _ _ c.empty-kernel.ensures c.insert.ensures c.requires.0)
-
 pub returns : goal.returns
 returns c g of =
     c.close.ensures g of (zero_kernel _ _ c.empty-kernel.ensures c.insert.ensures g)

@@ -1,29 +1,52 @@
-use Rattle.std.proofs.Common.{refl, ◌∙◌, arith}
+use Rattle.std.proofs.Common.{ℕ, ◌+◌, ◌-◌, ◌<◌, List, length, get_or, set, sym, refl, ap, ◌∙◌, subst, arith}
+use Rattle.book.specs.declared.rules.Rules.{Rules}
+use Rattle.book.specs.Reading.{rules_in}
 use Rattle.book.proofs.Held.{known}
-use Rattle.machine.proofs.IndexWalk.{fill_start, here_is, fill_more, fill_all}
+use Rattle.table.proofs.Rows.{zeros_at}
+use Rattle.machine.proofs.IndexWalk.{fill_start, named, room, fill_more, fill_all}
+use Rattle.machine.proofs.Links.{set_below}
 use Rattle.machine.proofs.items.Items.of.Goals as goal
 
-pub loop-i-init : goal.loop-i-init
-loop-i-init c = (refl, fill_start (known _ _ c.requires))
+pub invariant_of-items : goal.invariant_of-items
+invariant_of-items c = record { falls = λ k p. omega (arith, zeros_at 4096 k); heads = λ n. omega (arith, zeros_at 1024 n) }
 
-pub add_from-length-requires : goal.add_from-length-requires
-add_from-length-requires c = here_is c.loop-i.invariant.1 (omega arith)
+pub loop-rule-init : goal.loop-rule-init
+loop-rule-init c =
+    let k = known _ _ c.requires in (
+      refl,
+      fill_start k _ (ap (λ (r : Rules). rules_in r.count r.entries.now) c.into_iter-rule-iterator.ensures.into_iter_gives ∙ c.of-rule-items.ensures k.grammar k.holds),
+      (λ n. omega (arith, zeros_at 1024 n)),
+    )
 
-pub overflow_add-at-in-loop-i : goal.overflow_add-at-in-loop-i
-overflow_add-at-in-loop-i c =
-    let h = here_is c.loop-i.invariant.1 (omega arith) in
-    let l = c.add_from-length.ensures.length in
-    omega (arith, h.small, h.room)
+pub overflow_sub-name : goal.overflow_sub-name
+overflow_sub-name c =
+    let n = named c.loop-rule.invariant.1 c.in-Some.rule.left c.in-Some.rule.right.now _ c.in-Some.ensures.steps in
+    let e = c.from.ensures in omega (arith, n.0)
 
-pub overflow_add-first-in-loop-i : goal.overflow_add-first-in-loop-i
-overflow_add-first-in-loop-i c =
-    let h = here_is c.loop-i.invariant.1 (omega arith) in
-    let l = c.add_from-length.ensures.length in
-    omega (arith, h.room)
+pub add_rule-requires-clause-room : goal.add_rule-requires-clause-room
+add_rule-requires-clause-room c =
+    let w = c.loop-rule.invariant.1 in
+    let n = named w c.in-Some.rule.left c.in-Some.rule.right.now _ c.in-Some.ensures.steps in
+    let e = c.from.ensures in (omega (arith, n.1), room w c.in-Some.rule.left c.in-Some.rule.right.now _ c.in-Some.ensures.steps)
 
-pub loop-i-preserved : goal.loop-i-preserved
-loop-i-preserved c =
-    (c.add_from-length.ensures.words ∙ c.loop-i.invariant.0, fill_more c.loop-i.invariant.1 (omega arith) _ _ _ _ c.add_from-length.ensures.length c.add_from-length.ensures.after c.add_from-length.ensures.next c.add_from-length.ensures.head)
+pub overflow_add-first-in-loop-rule : goal.overflow_add-first-in-loop-rule
+overflow_add-first-in-loop-rule c =
+    omega (arith, room c.loop-rule.invariant.1 c.in-Some.rule.left c.in-Some.rule.right.now _ c.in-Some.ensures.steps)
 
-pub returns : goal.returns
-returns c = record { words = c.loop-i.invariant.0; indexed = fill_all c.loop-i.invariant.1 (omega arith) }
+pub loop-rule-preserved : goal.loop-rule-preserved
+loop-rule-preserved c =
+    let i = c.loop-rule.invariant in
+    let now = c.add_rule.ensures in
+    let left = c.in-Some.rule.left in
+    let right = c.in-Some.rule.right.now in
+    let first = c.loop-rule.first in
+    let words = c.args.book.words in
+    let head = c.loop-rule.items.head in (
+      now.words ∙ i.0,
+      fill_more i.1 left right _ c.in-Some.ensures.steps _ _ _ now.after
+          (now.next ∙ ap (λ l. set c.loop-rule.items.next first (get_or head (l - words) 0)) c.from.ensures) (now.head ∙ ap (λ l. set head (l - words) first) c.from.ensures),
+      (λ n. subst (λ (h : List ℕ). get_or h n 0 < first + (length right + 1)) (sym now.head) (set_below head _ _ _ (omega arith) (λ m. let h = i.2 m in omega arith) n)),
+    )
+
+pub returns-clause-indexed : goal.returns-clause-indexed
+returns-clause-indexed c = fill_all c.loop-rule.invariant.1 c.in-None.ensures.steps.0

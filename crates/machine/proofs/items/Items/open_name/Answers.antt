@@ -1,45 +1,29 @@
-use Rattle.std.proofs.Common.{◌+◌, subst, arith}
-use Rattle.machine.specs.Closing.{ToOpen}
-use Rattle.machine.proofs.Opening.{grown_none, grown_more, open_start, open_closed, open_more, open_end, open_bounds}
+use Rattle.std.proofs.Common.{◌≡◌, get_or, refl, sym, subst, arith}
+use mathlib.Core.List.{Memᴰ}
+use Rattle.machine.specs.Index.{links}
+use Rattle.machine.proofs.Links.{links_small}
+use Rattle.machine.proofs.Opening.{grown_none, grown_more, open_start, open_closed, open_more}
 use Rattle.machine.proofs.items.Items.open_name.Goals as goal
 
-pub loop-k-init : goal.loop-k-init
-loop-k-init c =
-    (grown_none c.args.at.now c.requires.notes, (λ g of n. open_start g c.args.self.now c.args.name c.args.at.now.set.words of n), (λ g K of n a w. w))
-
-pub take_item-requires : goal.take_item-requires
-take_item-requires c =
-    let b = open_bounds c.args.self.now c.args.name c.loop-k.k _ c.loop-k-test.true c.requires.named c.loop-k.invariant.1 in
-    (b.0, b.2, c.loop-k.invariant.0.notes)
-
-pub overflow_cast-k : goal.overflow_cast-k
-overflow_cast-k c =
-    omega (arith, (open_bounds c.args.self.now c.args.name c.loop-k.k _ c.loop-k-test.true c.requires.named c.loop-k.invariant.1).0)
-
-pub offset_bounds-self-k : goal.offset_bounds-self-k
-offset_bounds-self-k c =
-    omega (arith, (open_bounds c.args.self.now c.args.name c.loop-k.k _ c.loop-k-test.true c.requires.named c.loop-k.invariant.1).0)
-
-pub bounds-self-k : goal.bounds-self-k
-bounds-self-k c = (open_bounds c.args.self.now c.args.name c.loop-k.k _ c.loop-k-test.true c.requires.named c.loop-k.invariant.1).0
-
-pub loop-k-smaller : goal.loop-k-smaller
-loop-k-smaller c = (open_bounds c.args.self.now c.args.name c.loop-k.k _ c.loop-k-test.true c.requires.named c.loop-k.invariant.1).1
-
-pub loop-k-preserved : goal.loop-k-preserved
-loop-k-preserved c =
-    let i = c.loop-k.invariant in
-    let e = c.take_item.ensures in (
-      grown_more _ _ _ i.0 e.grown,
-      (λ g of n. open_more g c.args.self.now _ c.loop-k.k _ c.loop-k-test.true of (i.1 g of n) _ e.grown.still e.here),
-      (λ g K of n a w. e.within g K of (open_closed g c.args.self.now _ c.loop-k.k _ c.loop-k-test.true of (i.1 g of n) K a) (i.2 g K of n a w)),
+pub loop-item-init : goal.loop-item-init
+loop-item-init c =
+    let items = c.args.self.now in
+    let is : c.into_iter-item-iterator.result ≡ links items.next (get_or items.head c.args.name 0) = cc in (
+      grown_none c.args.at.now,
+      (λ j m. let l = links_small items.next items.falls (get_or items.head c.args.name 0) j (subst (Memᴰ j) is m) in let h = items.heads c.args.name in omega arith),
+      (λ g of n. open_start g items c.args.name _ _ of n is),
+      (λ g K of n a w. w),
     )
 
-pub returns : goal.returns
-returns c =
-    let i = c.loop-k.invariant in
-    record {
-      grown = i.0;
-      within = i.2;
-      opened = λ g k of n f. open_end g _ _ _ (subst (λ j. ToOpen g c.args.self.now.next (g.words + c.args.name) j c.loop-k.at.set.words) c.loop-k-test.false (i.1 g of n)) k f;
-    }
+pub take_item-requires : goal.take_item-requires
+take_item-requires c = c.loop-item.invariant.1 _ (subst (Memᴰ c.in-Some.item.0) (sym c.in-Some.ensures.steps) (Memᴰ.head refl))
+
+pub loop-item-preserved : goal.loop-item-preserved
+loop-item-preserved c =
+    let i = c.loop-item.invariant in
+    let e = c.take_item.ensures in (
+      grown_more _ _ _ i.0 e.grown,
+      (λ j m. i.1 j (subst (Memᴰ j) (sym c.in-Some.ensures.steps) (Memᴰ.tail m))),
+      (λ g of n. open_more g _ _ _ _ _ (i.2 g of n) c.in-Some.ensures.steps _ e.grown.still e.here),
+      (λ g K of n a w. e.within g K of (open_closed g _ _ _ _ _ (i.2 g of n) c.in-Some.ensures.steps K a) (i.3 g K of n a w)),
+    )

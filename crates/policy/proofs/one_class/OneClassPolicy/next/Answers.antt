@@ -1,6 +1,5 @@
-use Rattle.std.proofs.Common.{refl}
 use Rattle.policy.specs.Taking.{none_new}
 use Rattle.policy.proofs.one_class.OneClassPolicy.next.Goals as goal
 
-pub returns : goal.returns
-returns c = record { kind = refl; ready = tt; taken = none_new c.fits.ensures.1 }
+pub returns-clause-taken : goal.returns-clause-taken
+returns-clause-taken c = none_new c.fits.ensures.1

@@ -1,34 +1,13 @@
-use Rattle.std.proofs.Common.{take, refl, arith}
-use Rattle.policy.proofs.Placing.{size}
-use Rattle.policy.specs.LinkTaking.{past_taken, met_taken, placed_taken, placed_chained}
+use Rattle.policy.specs.Entries.{entries}
+use Rattle.policy.specs.LinkTaking.{after_taken, after_chained, after_none}
 use Rattle.policy.proofs.path.PathPolicy.next.Goals as goal
 
-pub returns-then-class-self : goal.returns-then-class-self
-returns-then-class-self c =
-    let s = c.args.self.now.links in
-    let n = size s.rows s.len s.fixed in
-    record {
-      kind = refl;
-      ready = c.requires;
-      taken = past_taken (take s.len s.rows) c.requires c.args.class.0 c.args.reached.0 (omega (arith, c.if-class-self.true));
-    }
+pub returns-in_err-link-clause-taken : goal.returns-in_err-link-clause-taken
+returns-in_err-link-clause-taken c =
+    rw c.from_residual.ensures (after_none (entries c.args.self.now.links) c.requires c.args.class.0 c.args.push.reached.0 c.in_err-link.ensures)
 
-pub returns-in-Some : goal.returns-in-Some
-returns-in-Some c =
-    let s = c.args.self.now.links in
-    let n = size s.rows s.len s.fixed in
-    record {
-      kind = refl;
-      ready = c.requires;
-      taken = met_taken (take s.len s.rows) c.requires c.args.class.0 c.args.reached.0 (omega (arith, c.if-class-self.false)) c.in-Some.met c.in-Some.ensures;
-    }
+pub returns-clause-ready : goal.returns-clause-ready
+returns-clause-ready c = after_chained (entries c.args.self.now.links) c.requires c.args.class.0 c.args.push.reached.0 c.in_ok-link.ensures c.place.ensures
 
-pub returns : goal.returns
-returns c =
-    let s = c.args.self.now.links in
-    let n = size s.rows s.len s.fixed in
-    record {
-      kind = refl;
-      ready = placed_chained (take s.len s.rows) c.requires c.args.class.0 c.args.reached.0 (omega (arith, c.if-class-self.false)) c.in_default.ensures c.place.ensures;
-      taken = placed_taken (take s.len s.rows) c.requires c.args.class.0 c.args.reached.0 (omega (arith, c.if-class-self.false)) c.in_default.ensures c.place.ensures;
-    }
+pub returns-clause-taken : goal.returns-clause-taken
+returns-clause-taken c = after_taken (entries c.args.self.now.links) c.requires c.args.class.0 c.args.push.reached.0 c.in_ok-link.ensures c.place.ensures

@@ -1,8 +1,0 @@
-use Rattle.std.proofs.Common.{take}
-use Rattle.std.specs.List.{flat_map}
-use Rattle.book.specs.Files.{bytes_of}
-use Rattle.fields.specs.Putting.{Put}
-use Rattle.fields.proofs.output.put_numbers.Given as goal
-
-abbrev pub invariant-loop-number : goal.invariant-loop-number
-invariant-loop-number l = Put l.initial.out l.at (flat_map bytes_of (take l.number-index l.numbers)) l.out l.end
