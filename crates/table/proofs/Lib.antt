@@ -5,3 +5,4 @@ pub mod Bits
 pub mod Rows
 pub mod Members
 pub mod Same
+pub mod Least
