@@ -1,9 +1,10 @@
 -- Rows of bytes as chunks, and how many of them come before a key.
-use Rattle.std.proofs.Common.{◌≡◌, ℕ, zero, suc, ◌+◌, ◌*◌, ◌/◌, ◌<◌, ◌≤◌, true, false, List, [], ◌∷◌, map, length, get_or, take, drop, Decides, sym, refl, ap, ◌∙◌, subst, ⊎_elim, arith}
+use Rattle.std.proofs.Common.{◌≡◌, ℕ, zero, suc, ◌+◌, ◌*◌, ◌/◌, ◌<◌, ◌≤◌, true, false, List, [], map, length, get_or, take, drop, Decides, sym, refl, ap, ◌∙◌, subst, ⊎_elim, arith}
 use Rattle.std.specs.List.{range_with_len}
 use Rattle.std.specs.List.Sorted.{IsPartitionedBy, IsPartitionPoint}
 use Rattle.std.specs.Simd.{first_chunks}
 use Rattle.std.proofs.lemmas.List.{drop-drop}
+use Rattle.std.proofs.lemmas.Simd.{map-map}
 use Rattle.std.proofs.lemmas.List.FromFn.{length-map-range_with_len}
 use Rattle.std.proofs.Math.Nat.{mul-le-mul_left}
 use Rattle.std.proofs.lemmas.Bool.{cases_lt, false≢true}
@@ -11,13 +12,13 @@ use Rattle.std.proofs.lemmas.Bool.Decides.{Decides-ltb, Decides-eqb, Decides-and
 use Rattle.table.specs.Lists.{StandsAt, InOrder}
 use Rattle.table.proofs.Lists.{stands_below, stands_same}
 use Rattle.finding.specs.Laws.{Rises}
-use Rattle.fields.specs.Reading.{number_at, arc_in}
+use Rattle.fields.specs.Reading.{arc_in}
 use Rattle.pga.specs.Reading.{jump_in}
 use Rattle.acceptor.specs.Rising.{less, Less, Parted}
 use Rattle.acceptor.specs.Rows.{arcs_of, keys_of, arc_key}
 use Rattle.acceptor.proofs.Halving.{less_trans}
-use Rattle.acceptor.proofs.Opening.{number_in_part}
-use Rattle.acceptor.proofs.Standing.{made_stands, keys_rise}
+use Rattle.acceptor.proofs.Opening.{jump_in_part, arc_in_part}
+use Rattle.acceptor.proofs.Standing.{made_stands, arc_stands, keys_rise}
 
 -- the test of the order decides it
 less_decides : (a b : ℕ × ℕ) → Decides (less a b) (Less a b)
@@ -45,21 +46,19 @@ module _ (size : ℕ) (bytes : List ℕ) where
       subst (λ at. StandsAt (keys_of size bytes) k (jump_in bytes at)) z (made_stands (λ k. jump_in bytes (0 + size * k)) (length bytes / size) k h)
 
 -- a row lies within the bytes
-pub row_fits : (size n k : ℕ) → 4 ≤ size → k < n / size → size * k + size ≤ n
-row_fits size n k wide h =
-    let q : k + 1 ≤ n / size = omega arith in
-    let m : size * (k + 1) ≤ size * (n / size) = mul-le-mul_left size q in
+pub row_fits : (size : ℕ) (bytes : List ℕ) (k : ℕ) → 4 ≤ size → k < length (keys_of size bytes) → size * k + size ≤ length bytes
+row_fits size bytes k wide h =
+    let q : k + 1 ≤ length bytes / size = omega (arith, keys_length size bytes) in
+    let m : size * (k + 1) ≤ size * (length bytes / size) = mul-le-mul_left size q in
     omega arith
 
 module _ (size : ℕ) (wide : 4 ≤ size) (bytes : List ℕ) where
   -- the key of a chunk
   chunk_key : (k : ℕ) (d : List ℕ) → k < length bytes / size → jump_in (get_or (first_chunks size (length bytes / size) bytes) k d) 0 ≡ jump_in bytes (size * k)
   chunk_key k d h =
-      let part = take size (drop (size * k) bytes) in
       let z : size * k + 0 ≡ size * k = omega arith in
-      let x : number_at part 0 ≡ number_at bytes (size * k) = number_in_part bytes (size * k) size 0 (omega arith) ∙ ap (number_at bytes) z in
-      let y : number_at part 2 ≡ number_at bytes (size * k + 2) = number_in_part bytes (size * k) size 2 (omega arith) in
-      ap (λ c. jump_in c 0) (chunk_at size (length bytes / size) k bytes d h) ∙ (λ i. (x i, y i))
+      jump_in_part bytes (get_or (first_chunks size (length bytes / size) bytes) k d) (size * k) size (chunk_at size (length bytes / size) k bytes d h) 0 (omega arith)
+      ∙ ap (jump_in bytes) z
 
   module _ (rising : InOrder Less (keys_of size bytes)) (key : ℕ × ℕ) where
     -- a chunk before the key comes after no other
@@ -94,33 +93,19 @@ module _ (size : ℕ) (wide : 4 ≤ size) (bytes : List ℕ) where
         }
 
 -- the keys of arcs
-map_made : {A B C : Type 0} (f : B → C) (g : A → B) (xs : List A) → map f (map g xs) ≡ map (λ x. f (g x)) xs
-map_made f g [] = refl
-map_made f g (x ∷ xs) = ap (λ ys. f (g x) ∷ ys) (map_made f g xs)
+arc_keys : (bytes : List ℕ) → keys_of 6 bytes ≡ map arc_key (arcs_of bytes)
+arc_keys bytes = sym (map-map arc_key (λ k. arc_in bytes (0 + 6 * k)) (range_with_len 0 (length bytes / 6)))
 
-pub arc_keys : (bytes : List ℕ) → keys_of 6 bytes ≡ map arc_key (arcs_of bytes)
-arc_keys bytes = sym (map_made arc_key (λ k. arc_in bytes (0 + 6 * k)) (range_with_len 0 (length bytes / 6)))
-
-pub arc_parted : (bytes : List ℕ) (key : ℕ × ℕ) (n : ℕ) → (InOrder Less (keys_of 6 bytes) → Parted (keys_of 6 bytes) key n) → InOrder Rises (arcs_of bytes)
+pub arc_parted : (bytes : List ℕ) {key : ℕ × ℕ} {n : ℕ} → (InOrder Less (keys_of 6 bytes) → Parted (keys_of 6 bytes) key n) → InOrder Rises (arcs_of bytes)
     → Parted (map arc_key (arcs_of bytes)) key n
-arc_parted bytes key n f o =
+arc_parted bytes {key} {n} f o =
     subst (λ ks. Parted ks key n) (arc_keys bytes) (f (subst (InOrder Less) (sym (arc_keys bytes)) (keys_rise (arcs_of bytes) o)))
 
-pub arc_key_at : (bytes : List ℕ) (n : ℕ) (t : ℕ × ℕ) → StandsAt (keys_of 6 bytes) n t → StandsAt (map arc_key (arcs_of bytes)) n t
-arc_key_at bytes n t = subst (λ ks. StandsAt ks n t) (arc_keys bytes)
-
 -- the arc in the chunk of number n
-module _ (bytes row : List ℕ) (n : ℕ) (few : n < length bytes / 6) (at : row ≡ get_or (first_chunks 6 (length bytes / 6) bytes) n row) where
-  pub arc_row : arc_in row 0 ≡ arc_in bytes (6 * n)
-  arc_row =
-      let part = take 6 (drop (6 * n) bytes) in
-      let is : row ≡ part = at ∙ chunk_at 6 (length bytes / 6) n bytes row few in
-      let z : 6 * n + 0 ≡ 6 * n = omega arith in
-      let x : number_at part 0 ≡ number_at bytes (6 * n) = number_in_part bytes (6 * n) 6 0 (omega arith) ∙ ap (number_at bytes) z in
-      let y : number_at part 2 ≡ number_at bytes (6 * n + 2) = number_in_part bytes (6 * n) 6 2 (omega arith) in
-      let w : number_at part 4 ≡ number_at bytes (6 * n + 4) = number_in_part bytes (6 * n) 6 4 (omega arith) in
-      ap (λ c. arc_in c 0) is ∙ (λ i. (x i, y i, w i))
-
-  -- its key stands there
-  pub row_key_at : (t : ℕ × ℕ) → t ≡ jump_in row 0 → StandsAt (map arc_key (arcs_of bytes)) n t
-  row_key_at t e = arc_key_at bytes n t (subst (StandsAt (keys_of 6 bytes) n) (sym (e ∙ ap arc_key arc_row)) (key_stands 6 bytes n few))
+pub row_stands : (bytes : List ℕ) (rows : List (List ℕ)) (n : ℕ) (row : List ℕ) → rows ≡ first_chunks 6 (length bytes / 6) bytes → n < length rows → row ≡ get_or rows n row
+    → StandsAt (arcs_of bytes) n (arc_in row 0)
+row_stands bytes rows n row front few at =
+    let b : n < length bytes / 6 = omega (arith, ap length front, length_chunks 6 (length bytes / 6) bytes) in
+    let is : row ≡ take 6 (drop (6 * n) bytes) = at ∙ ap (λ cs. get_or cs n row) front ∙ chunk_at 6 (length bytes / 6) n bytes row b in
+    let z : 6 * n + 0 ≡ 6 * n = omega arith in
+    subst (StandsAt (arcs_of bytes) n) (sym (arc_in_part bytes row (6 * n) 6 is 0 (omega arith) ∙ ap (arc_in bytes) z)) (arc_stands bytes n b)

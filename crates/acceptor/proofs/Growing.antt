@@ -8,10 +8,6 @@ use Rattle.table.proofs.Lists.{stands_same, mem_at, at_mem}
 use Rattle.acceptor.specs.Rising.{Less, Parted}
 use Rattle.acceptor.specs.Steps.{Grown}
 
-pub grown_none : {To : ℕ → Type 0} (set fresh : List ℕ) → Grown To set fresh set fresh
-grown_none set fresh =
-    record { kept = λ k h. h; only = λ k h. inl h; still_fresh = λ k h. h; new_fresh = λ k h. inl h; fresh_new = λ k h. inl h }
-
 pub grown_more : {To : ℕ → Type 0} {a f b g c h : List ℕ} → Grown To a f b g → Grown To b g c h → Grown To a f c h
 grown_more x y =
     record {
@@ -29,15 +25,7 @@ grown_as w x =
 
 -- ── the jumps of one node ──
 
-module _ (jumps : List (ℕ × ℕ)) (rising : InOrder Less jumps) (q n : ℕ) (parted : Parted jumps (q, 0) n) where
-  -- none of them stands in front
-  pub none_before : (j to : ℕ) → StandsAt jumps j (q, to) → j < n → ⊥
-  none_before j to s h = less (parted.front j (q, to) h s)
-    where
-      less : Less (q, to) (q, 0) → ⊥
-      less (inl l) = omega arith
-      less (inr l) = omega (arith, l.1)
-
+module _ (jumps : List (ℕ × ℕ)) (rising : InOrder Less jumps) {q n : ℕ} (parted : Parted jumps (q, 0) n) where
   -- all of them stand before the first jump of another node
   pub all_before : (k : ℕ) (t : ℕ × ℕ) → n ≤ k → StandsAt jumps k t → (t.0 ≡ q → ⊥) → (j to : ℕ) → StandsAt jumps j (q, to) → j < k
   all_before k t h at ne j to s =

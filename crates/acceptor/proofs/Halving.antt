@@ -1,21 +1,17 @@
 -- What stands where rows that rise part.
-use Rattle.std.proofs.Common.{◌≡◌, ℕ, ◌≤◌, List, ◌∙◌, inl, inr, ⊎_elim, arith}
+use Rattle.std.proofs.Common.{◌≡◌, ℕ, ◌≤◌, List, ⊎_elim, arith}
 use Rattle.std.proofs.lemmas.Bool.{cases_lt}
 use Rattle.table.specs.Lists.{StandsAt, InOrder}
 use Rattle.table.proofs.Lists.{stands_below, stands_some}
 use Rattle.acceptor.specs.Rising.{Less, Parted}
 
 pub less_trans : (a b c : ℕ × ℕ) → Less a b → Less b c → Less a c
-less_trans a b c (inl h) (inl k) = inl (omega arith)
-less_trans a b c (inl h) (inr k) = inl (omega (arith, k.0))
-less_trans a b c (inr h) (inl k) = inl (omega (arith, h.0))
-less_trans a b c (inr h) (inr k) = inr (h.0 ∙ k.0, omega (arith, h.1, k.1))
+less_trans a b c h k = grind arith
 
 less_never : (a : ℕ × ℕ) → Less a a → ⊥
-less_never a (inl h) = omega arith
-less_never a (inr h) = omega (arith, h.1)
+less_never a h = grind arith
 
-module _ (keys : List (ℕ × ℕ)) (rising : InOrder Less keys) (key : ℕ × ℕ) (n : ℕ) (parted : Parted keys key n) where
+module _ (keys : List (ℕ × ℕ)) (rising : InOrder Less keys) {key : ℕ × ℕ} {n : ℕ} (parted : Parted keys key n) where
   -- a row whose numbers are the key, or come after it, is not among the first n
   pub not_front : (k : ℕ) (t : ℕ × ℕ) → StandsAt keys k t → (Less t key → ⊥) → n ≤ k
   not_front k t s no_less = ⊎_elim (λ l. absurd (no_less (parted.front k t l s))) (λ l. l) (cases_lt k n)

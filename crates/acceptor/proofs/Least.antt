@@ -1,11 +1,12 @@
 -- The least word over which a set of nodes leads anywhere.
-use Rattle.std.proofs.Common.{◌≡◌, ℕ, ◌≤◌, min, Bool, true, false, cond, ◌&&◌, eqb, leb, ◌⊎◌, List, [], ◌∷◌, Some, None, Option, MatchOption, sym, refl, ap, ◌∙◌, subst, inl, inr, ⊎_elim, arith, eq-eqb, eqb-true, le-leb, leb-true}
+use Rattle.std.proofs.Common.{◌≡◌, ℕ, ◌≤◌, min, Bool, true, false, cond, ◌&&◌, eqb, leb, List, [], ◌∷◌, Some, None, Option, sym, refl, ap, subst, ⊎_elim, arith, eq-eqb, eqb-true, le-leb, leb-true}
 use mathlib.Core.Option.{none}
 use mathlib.Core.List.Memᴰ
 use mathlib.Core.List.{Memᴰ}
-use Rattle.std.specs.List.{fold, reduce, filter_map, cons_option}
+use Rattle.std.specs.List.{reduce, filter_map}
 use Rattle.std.proofs.lemmas.Bool.{cases_lt, and_parts, and_from}
 use Rattle.table.specs.Lists.{InOrder}
+use Rattle.table.proofs.Least.{IsLeast, least_is, given_from, given_in}
 use Rattle.finding.specs.Laws.{Rises}
 use Rattle.finding.specs.Numbered.{Arrow}
 use Rattle.theory.specs.Flattening.{Acceptor}
@@ -17,44 +18,8 @@ use Rattle.acceptor.specs.Rows.{LeastOf, Leaves, LeastWord}
 use Rattle.acceptor.specs.Steps.{NextWord}
 use Rattle.acceptor.proofs.Fitting.{fit_range}
 
--- the least of some numbers
-least : (x : ℕ) (xs : List ℕ) → Memᴰ (fold min x xs) (x ∷ xs) × ((y : ℕ) → Memᴰ y (x ∷ xs) → fold min x xs ≤ y)
-least x [] = (Memᴰ.head refl, (λ y m. ⊎_elim (λ e. omega arith) (λ z. absurd (Memᴰ.not-nil z)) (Memᴰ.cases_cons m)))
-least x (z ∷ xs) =
-    let (i, l) = least (min x z) xs in
-    let first = l (min x z) (Memᴰ.head refl) in (
-      ⊎_elim (λ e. ⊎_elim (λ h. Memᴰ.head (omega arith)) (λ h. Memᴰ.tail (Memᴰ.head (omega arith))) (cases_lt x z)) (λ m. Memᴰ.tail (Memᴰ.tail m)) (Memᴰ.cases_cons i),
-      (λ y m. ⊎_elim (λ e. omega arith) (λ n. ⊎_elim (λ e. omega arith) (λ o. l y (Memᴰ.tail o)) (Memᴰ.cases_cons n)) (Memᴰ.cases_cons m)),
-    )
-
-abbrev IsLeast : List ℕ → Option ℕ → Type 0
-IsLeast xs r = MatchOption r (xs ≡ []) (λ m. Memᴰ m xs × ((y : ℕ) → Memᴰ y xs → m ≤ y))
-
-least_is : (xs : List ℕ) → IsLeast xs (reduce min xs)
-least_is [] = refl
-least_is (x ∷ xs) = least x xs
-
 -- the least that a function gives of a list is the least of which the predicate of some element holds
 module _ {A : Type 0} (P : A → ℕ → Type 0) (x : ℕ) (g : A → Option ℕ) (is : (a : A) → LeastOf (P a) x (g a)) where
-  give_cases : (o : Option ℕ) (y : ℕ) (ys : List ℕ) → Memᴰ y (cons_option o ys) → (o ≡ Some y) ⊎ Memᴰ y ys
-  give_cases None y ys m = inr m
-  give_cases (Some z) y ys m = ⊎_elim (λ q. inl (ap Some (sym q))) inr (Memᴰ.cases_cons m)
-
-  given_from : (l : List A) (y : ℕ) → Memᴰ y (filter_map g l) → (a : A) × Memᴰ a l × (g a ≡ Some y)
-  given_from [] y m = absurd (Memᴰ.not-nil m)
-  given_from (a ∷ l) y m = ⊎_elim (λ q. (a, Memᴰ.head refl, q)) (λ r. let f = given_from l y r in (f.0, Memᴰ.tail f.1, f.2)) (give_cases (g a) y (filter_map g l) m)
-
-  give_later : (o : Option ℕ) (y : ℕ) (ys : List ℕ) → Memᴰ y ys → Memᴰ y (cons_option o ys)
-  give_later None y ys m = m
-  give_later (Some z) y ys m = Memᴰ.tail m
-
-  given_in : (l : List A) (a : A) (y : ℕ) → Memᴰ a l → g a ≡ Some y → Memᴰ y (filter_map g l)
-  given_in [] a y m e = absurd (Memᴰ.not-nil m)
-  given_in (b ∷ l) a y m e =
-      ⊎_elim (λ q. subst (λ o. Memᴰ y (cons_option o (filter_map g l))) (sym (ap g (sym q) ∙ e)) (Memᴰ.head refl))
-      (λ r. give_later (g b) y (filter_map g l) (given_in l a y r e))
-      (Memᴰ.cases_cons m)
-
   -- what holds of a number is given a number that is no greater
   given_below : (a : A) (y : ℕ) → x ≤ y → P a y → (z : ℕ) × (g a ≡ Some z) × (z ≤ y)
   given_below a y l p = at (g a) refl (is a)
@@ -67,11 +32,11 @@ module _ {A : Type 0} (P : A → ℕ → Type 0) (x : ℕ) (g : A → Option ℕ
   least_given l = at (reduce min (filter_map g l)) (least_is (filter_map g l))
     where
       at : (r : Option ℕ) → IsLeast (filter_map g l) r → LeastOf (λ y. (a : A) × Memᴰ a l × P a y) x r
-      at None e = λ y b (a, m, p). let z = given_below a y b p in Memᴰ.not-nil (subst (Memᴰ z.0) e (given_in l a z.0 m z.1))
+      at None e = λ y b (a, m, p). let z = given_below a y b p in Memᴰ.not-nil (subst (Memᴰ z.0) e (given_in g l a z.0 m z.1))
       at (Some n) (among, below) =
-          let f = given_from l n among in
+          let f = given_from g l n among in
           let h = subst (LeastOf (P f.0) x) f.2 (is f.0) in
-          (h.0, (f.0, f.1, h.1), λ y b s (a, m, p). let z = given_below a y b p in let i = below z.0 (given_in l a z.0 m z.1) in let j = z.2 in absurd (omega arith))
+          (h.0, (f.0, f.1, h.1), λ y b s (a, m, p). let z = given_below a y b p in let i = below z.0 (given_in g l a z.0 m z.1) in let j = z.2 in absurd (omega arith))
 
 -- the least number is one
 least_one : (P : ℕ → Type 0) (x : ℕ) (a b : Option ℕ) → LeastOf P x a → LeastOf P x b → a ≡ b

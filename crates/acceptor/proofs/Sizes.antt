@@ -1,96 +1,60 @@
 -- Sizes of sets: a set that has more members is larger.
-use Rattle.std.proofs.Common.{◌≡◌, ℕ, zero, suc, ◌+◌, ◌*◌, ◌<◌, ◌≤◌, Bool, true, false, cond, eqb, List, [], ◌∷◌, length, sym, refl, ap, ◌∙◌, subst, ⊎_elim, arith, eq-eqb, eqb-true}
+use Rattle.std.proofs.Common.{◌≡◌, ℕ, ◌<◌, ◌≤◌, ◌≢◌, List, ◌∷◌, length, sym, ap, ◌∙◌, subst, ⊎_elim, arith}
+use mathlib.Core.Option.{some}
 use mathlib.Core.List.Memᴰ
 use mathlib.Core.List.{Memᴰ}
-use Rattle.std.proofs.lemmas.List.{length-append}
-use Rattle.std.proofs.lemmas.Bool.{cases_lt}
-use Rattle.table.specs.Sets.{Row, In, bit_of, passing, members}
-use Rattle.table.proofs.Rows.{in_below, in_members, members_in}
+use Rattle.std.specs.Cmp.{nat_eq_equiv}
+use Rattle.std.specs.List.{AllPairs, Contains}
+use Rattle.std.proofs.lemmas.Bool.Decides.{Decides-eqb}
+use Rattle.std.proofs.lemmas.List.Kept.{AllPairs-cons}
+use Rattle.std.proofs.lemmas.Map.Made.{IsDistinct-from_AllPairs, is_member-Decides, length-le_from_is_member}
+use Rattle.std.proofs.lemmas.Map.Steps.{length-le_from_distinct_below}
+use Rattle.table.specs.Lists.{Ascending}
+use Rattle.table.specs.Sets.{Row, In, members}
+use Rattle.table.proofs.Lists.{stands_below, stands_some, stands_getD, stands_is, mem_at, at_mem}
+use Rattle.table.proofs.Rows.{in_members, members_in, members_ascending, in_below}
 
-one_if : Bool → ℕ
-one_if true = 1
-one_if false = 0
+-- members, as the library speaks of them
+contains_mem : (xs : List ℕ) (x : ℕ) → Contains xs x → Memᴰ x xs
+contains_mem xs x (k, h, e) = mem_at xs k x (stands_getD xs k x h ∙ ap some e)
 
-length_passing : (p : ℕ → Bool) (n : ℕ) → length (passing p (suc n)) ≡ length (passing p n) + one_if (p n)
-unfolding passing one_if
-length_passing p n = length-append (passing p n) (cond (p n) (n ∷ []) []) ∙ ap (λ m. length (passing p n) + m) (last (p n))
-  where
-    last : (b : Bool) → length (cond b (n ∷ []) []) ≡ one_if b
-    last true = refl
-    last false = refl
+mem_contains : (xs : List ℕ) (x : ℕ) → Memᴰ x xs → Contains xs x
+mem_contains xs x m = let (k, s) = at_mem xs x m in (k, stands_below xs k x s, stands_is xs k x x s)
 
-module _ (p q : ℕ → Bool) (more : (k : ℕ) → p k ≡ true → q k ≡ true) where
-  here : (k : ℕ) (a b : Bool) → p k ≡ a → q k ≡ b → one_if a ≤ one_if b
-  unfolding one_if
-  here k true true e d = omega arith
-  here k true false e d = let z : true ≡ false = sym (more k e) ∙ d in let y : ◌≡◌ {A = ℕ} 0 1 = cc in absurd (omega arith)
-  here k false true e d = omega arith
-  here k false false e d = omega arith
+-- no two members of an ascending list are one
+ascending_apart : (xs : List ℕ) → Ascending xs → AllPairs (λ x y. x ≢ y) xs
+ascending_apart xs o i j d l h e = let r = o i j _ _ l (stands_getD xs i d (omega arith)) (stands_getD xs j d h) in omega arith
 
-  few_passing : (n : ℕ) → length (passing p n) ≤ length (passing q n)
-  unfolding passing
-  few_passing zero = omega arith
-  few_passing (suc n) = omega (arith, few_passing n, here n (p n) (q n) refl refl, length_passing p n, length_passing q n)
-
-  fewer_passing : (n k : ℕ) → k < n → q k ≡ true → p k ≡ false → length (passing p n) < length (passing q n)
-  unfolding one_if
-  fewer_passing zero k h t f = absurd (omega arith)
-  fewer_passing (suc n) k h t f =
-      ⊎_elim (λ l. omega (arith, fewer_passing n k l t f, here n (p n) (q n) refl refl, length_passing p n, length_passing q n))
-      (λ l. let e : k ≡ n = omega arith in
-      let a : one_if (p n) ≡ 0 = ap one_if (ap p (sym e) ∙ f) in
-      let b : one_if (q n) ≡ 1 = ap one_if (ap q (sym e) ∙ t) in
-      omega (arith, few_passing n, a, b, length_passing p n, length_passing q n))
-      (cases_lt k n)
-
-most_passing : (p : ℕ → Bool) (n : ℕ) → length (passing p n) ≤ n
-unfolding passing one_if
-most_passing p zero = omega arith
-most_passing p (suc n) = omega (arith, most_passing p n, length_passing p n, small (p n))
-  where
-    small : (b : Bool) → one_if b ≤ 1
-    small true = omega arith
-    small false = omega arith
-
--- whether k is a member, as the list of members asks it
-test : List ℕ → ℕ → Bool
-test words k = eqb (bit_of words k) 1
+-- a list whose members are apart and among those of another is no longer
+fewer : (xs ys : List ℕ) → AllPairs (λ x y. x ≢ y) xs → ((k : ℕ) → Memᴰ k xs → Memᴰ k ys) → length xs ≤ length ys
+fewer xs ys apart more =
+    length-le_from_is_member nat_eq_equiv xs ys (IsDistinct-from_AllPairs Decides-eqb xs apart)
+    (λ q t. (is_member-Decides Decides-eqb ys q).1 (mem_contains ys q (more q (contains_mem xs q ((is_member-Decides Decides-eqb xs q).0 t)))))
 
 module _ (ws vs : List ℕ) (row : Row ws) (row' : Row vs) (more : (k : ℕ) → In ws k → In vs k) where
-  test_more : (k : ℕ) → test ws k ≡ true → test vs k ≡ true
-  unfolding test In
-  test_more k e = eq-eqb (bit_of vs k) 1 (more k (eqb-true (bit_of ws k) 1 e))
+  apart : AllPairs (λ x y. x ≢ y) (members ws)
+  apart = ascending_apart (members ws) (members_ascending ws)
 
-  size_as : (us : List ℕ) → Row us → length (members us) ≡ length (passing (test us) (64 * 64))
-  unfolding members test
-  size_as us r = ap (λ n. length (passing (test us) (64 * n))) r.0
+  among : (k : ℕ) → Memᴰ k (members ws) → Memᴰ k (members vs)
+  among k m = in_members vs row' k (more k (members_in ws k m))
 
   pub size_grows : length (members ws) ≤ length (members vs)
-  size_grows = omega (arith, few_passing (test ws) (test vs) test_more (64 * 64), size_as ws row, size_as vs row')
+  size_grows = fewer (members ws) (members vs) apart among
 
   pub size_rises : (k : ℕ) → In vs k → (In ws k → ⊥) → length (members ws) < length (members vs)
-  unfolding test In
   size_rises k m n =
-      omega (arith, fewer_passing (test ws) (test vs) test_more (64 * 64) k (in_below vs row' k m) (eq-eqb (bit_of vs k) 1 m) (not_one (test ws k) refl), size_as ws row, size_as vs row')
-    where
-      not_one : (b : Bool) → test ws k ≡ b → test ws k ≡ false
-      not_one true e = absurd (n (eqb-true (bit_of ws k) 1 e))
-      not_one false e = e
+      fewer (k ∷ members ws) (members vs)
+      (AllPairs-cons (λ x y. x ≢ y) k (members ws) (λ i d h e. n (members_in ws k (mem_at (members ws) i k (stands_getD (members ws) i d h ∙ ap some (sym e))))) apart)
+      (λ j i. ⊎_elim (λ e. subst (λ z. Memᴰ z (members vs)) (sym e) (in_members vs row' k m)) (among j) (Memᴰ.cases_cons i))
 
-  pub size_most : length (members vs) ≤ 4096
-  size_most = omega (arith, most_passing (test vs) (64 * 64), size_as vs row')
+pub size_most : (ws : List ℕ) → Row ws → length (members ws) ≤ 4096
+size_most ws row =
+    length-le_from_distinct_below (members ws) 4096 (IsDistinct-from_AllPairs Decides-eqb (members ws) (ascending_apart (members ws) (members_ascending ws)))
+    (λ q t. in_below ws row q (members_in ws q (contains_mem (members ws) q ((is_member-Decides Decides-eqb (members ws) q).0 t))))
 
 -- a set of size 0 has no member, and another has one
 pub no_member : (ws : List ℕ) → Row ws → length (members ws) ≡ 0 → (k : ℕ) → In ws k → ⊥
-no_member ws row e k m = none (members ws) e (in_members ws row k m)
-  where
-    none : (l : List ℕ) → length l ≡ 0 → Memᴰ k l → ⊥
-    none [] e m = Memᴰ.not-nil m
-    none (x ∷ l) e m = omega arith
+no_member ws row e k m = let (i, s) = at_mem (members ws) k (in_members ws row k m) in omega (arith, stands_below (members ws) i k s)
 
 pub some_member : (ws : List ℕ) → 0 < length (members ws) → (k : ℕ) × In ws k
-some_member ws h = one (members ws) refl h
-  where
-    one : (l : List ℕ) → members ws ≡ l → 0 < length l → (k : ℕ) × In ws k
-    one [] e h = absurd (omega arith)
-    one (x ∷ l) e h = (x, members_in ws x (subst (Memᴰ x) (sym e) (Memᴰ.head refl)))
+some_member ws h = let (k, s) = stands_some (members ws) 0 h in (k, members_in ws k (mem_at (members ws) 0 k s))

@@ -23,11 +23,11 @@ spreading_none f seeds =
     record { seeded = λ k m. m; within = λ k m. record { from = k; member = m; reads = stop }; fresh_in = λ k m. m; closed = λ q k m j. inl m }
 
 -- each wave finds a node that is new, or is the last
-pub wave_falls : {jumps : List (ℕ × ℕ)} (set fresh set' fresh' : List ℕ) → Wave jumps set fresh set' fresh' → Row set → Row set' → 0 < length (members fresh)
+pub wave_falls : {jumps : List (ℕ × ℕ)} {set fresh set' fresh' : List ℕ} → Wave jumps set fresh set' fresh' → Row set → Row set' → 0 < length (members fresh)
     → (4096 - length (members set')) + min 1 (length (members fresh')) < (4096 - length (members set)) + min 1 (length (members fresh))
-wave_falls set fresh set' fresh' w row row' h =
+wave_falls {set = set} {fresh} {set'} {fresh'} w row row' h =
     let grows = size_grows set set' row row' w.kept in
-    let most = size_most set set' row row' w.kept in
+    let most = size_most set' row' in
     ⊎_elim (λ z. omega arith)
     (λ z. let (k, m) = some_member fresh' z in
     let (i, n) = w.fresh_new k m in
@@ -37,10 +37,10 @@ wave_falls set fresh set' fresh' w row row' h =
     none_or_some : (n : ℕ) → (n ≡ 0) ⊎ (0 < n)
     none_or_some n = ⊎_elim (λ l. inr l) (λ l. inl (omega arith)) (cases_lt 0 n)
 
-module _ (f : Acceptor) (seeds set fresh : List ℕ) (s : Spreading f seeds set fresh) where
-  pub spreading_more : (set' fresh' : List ℕ) → Wave f.jumps set fresh set' fresh' → InOrder JumpLess f.jumps → ((q k : ℕ) → Memᴰ (q, k) f.jumps → k < 4096)
+module _ {f : Acceptor} {seeds set fresh : List ℕ} (s : Spreading f seeds set fresh) where
+  pub spreading_more : {set' fresh' : List ℕ} → Wave f.jumps set fresh set' fresh' → InOrder JumpLess f.jumps → ((q k : ℕ) → Memᴰ (q, k) f.jumps → k < 4096)
       → Spreading f seeds set' fresh'
-  spreading_more set' fresh' w rising small =
+  spreading_more w rising small =
       record {
         seeded = λ k m. w.kept k (s.seeded k m);
         within = λ k m. ⊎_elim (s.within k) (λ (q, h, j). let r = s.within q (s.fresh_in q h) in
@@ -55,5 +55,5 @@ module _ (f : Acceptor) (seeds set fresh : List ℕ) (s : Spreading f seeds set 
     where
       reached : {q n : ℕ} {v : List ℕ} → Reads f q v n → v ≡ [] → In set q → In set n
       reached stop e m = m
-      reached (arc a r) e m = let z : ◌≡◌ {A = ℕ} 0 1 = cc in absurd (omega arith)
+      reached (arc a r) e m = absurd cc
       reached (jump {q = q} {r = t} j r) e m = reached r e (⊎_elim (λ h. absurd (none q h)) (λ h. h) (s.closed q t m j))

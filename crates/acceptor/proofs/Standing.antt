@@ -37,7 +37,7 @@ module _ (arcs : List Arrow) (rising : InOrder Rises arcs) where
       let (b, bt, d) = stands_unmap arc_key arcs k u v in
       subst (λ x. Less x u) e (subst (λ y. Less (arc_key a) y) d (rising j k a b h at bt))
 
-  module _ (q x n : ℕ) (parted : Parted (map arc_key arcs) (q, x) n) where
+  module _ {q x n : ℕ} (parted : Parted (map arc_key arcs) (q, x) n) where
     keyed : (y p : ℕ) → Memᴰ (q, y, p) arcs → (k : ℕ) × StandsAt arcs k (q, y, p) × StandsAt (map arc_key arcs) k (q, y)
     keyed y p m = let (k, s) = at_mem arcs (q, y, p) m in (k, s, stands_map arc_key arcs k (q, y, p) s)
 
@@ -45,15 +45,11 @@ module _ (arcs : List Arrow) (rising : InOrder Rises arcs) where
     pub arc_at : (p : ℕ) → Memᴰ (q, x, p) arcs → StandsAt arcs n (q, x, p)
     arc_at p m =
         let (k, s, t) = keyed x p m in
-        subst (λ j. StandsAt arcs j (q, x, p)) (key_at (map arc_key arcs) keys_rise (q, x) n parted k t) s
+        subst (λ j. StandsAt arcs j (q, x, p)) (key_at (map arc_key arcs) keys_rise parted k t) s
 
     -- what leaves q on x or more stands there or later
     later : (y p k : ℕ) → x ≤ y → StandsAt (map arc_key arcs) k (q, y) → n ≤ k
-    later y p k h t = not_front (map arc_key arcs) keys_rise (q, x) n parted k (q, y) t no_less
-      where
-        no_less : Less (q, y) (q, x) → ⊥
-        no_less (inl l) = omega arith
-        no_less (inr l) = omega (arith, l.1)
+    later y p k h t = not_front (map arc_key arcs) keys_rise parted k (q, y) t (λ (l : Less (q, y) (q, x)). grind arith)
 
     pub no_arcs : length arcs ≤ n → LeastWord arcs q x None
     no_arcs few y h (p, m) = let (k, s, t) = keyed y p m in omega (arith, later y p k h t, stands_below arcs k (q, y, p) s)
@@ -78,15 +74,11 @@ module _ (arcs : List Arrow) (rising : InOrder Rises arcs) where
         ⊎_elim (λ l. absurd (parted.rest n (arc_key a) (omega arith) (stands_map arc_key arcs n a at) (inr (e, l)))) (λ l. l) (cases_lt a.1 x),
         λ z p h less m.
             let (k, s, t) = keyed z p m in
-            ⊎_elim (λ l. past z p less (rising n k a (q, z, p) l at s))
+            ⊎_elim (λ l. let r : Rises a (q, z, p) = rising n k a (q, z, p) l at s in grind arith)
             (λ l. let d : k ≡ n = omega (arith, later z p k h t) in
             let w = ap (λ (b : Arrow). b.1) (stands_same arcs n a (q, z, p) at (subst (λ j. StandsAt arcs j (q, z, p)) d s)) in omega arith)
             (cases_lt n k),
       )
-        where
-          past : (z p : ℕ) → z < a.1 → Rises a (q, z, p) → ⊥
-          past z p less (inl l) = omega arith
-          past z p less (inr l) = omega (arith, l.1)
 
     -- ── what is answered ──
 
@@ -94,35 +86,35 @@ module _ (arcs : List Arrow) (rising : InOrder Rises arcs) where
     pub past_target : length arcs ≤ n → MoveOn arcs q x None
     past_target few p m = omega (arith, stands_below arcs n (q, x, p) (arc_at p m))
 
-    module _ (t : ℕ × ℕ) (at : StandsAt (map arc_key arcs) n t) where
-      its : (a : Arrow) × StandsAt arcs n a × (arc_key a ≡ t)
-      its = stands_unmap arc_key arcs n t at
+    module _ (a : Arrow) (at : StandsAt arcs n a) (key : ℕ × ℕ) (its : key ≡ arc_key a) where
+      left : key.0 ≡ a.0
+      left = ap (λ (k : ℕ × ℕ). k.0) its
+
+      word : key.1 ≡ a.1
+      word = ap (λ (k : ℕ × ℕ). k.1) its
 
       -- the arc there is another
-      pub other_target : (t.0 ≡ q → t.1 ≡ x → ⊥) → MoveOn arcs q x None
+      pub other_target : (key.0 ≡ q → key.1 ≡ x → ⊥) → MoveOn arcs q x None
       other_target o p m =
-          let e = stands_same (map arc_key arcs) n (q, x) t (stands_map arc_key arcs n (q, x, p) (arc_at p m)) at in
-          o (sym (ap (λ (k : ℕ × ℕ). k.0) e)) (sym (ap (λ (k : ℕ × ℕ). k.1) e))
+          let e = stands_same arcs n a (q, x, p) at (arc_at p m) in
+          o (left ∙ ap (λ (b : Arrow). b.0) e) (word ∙ ap (λ (b : Arrow). b.1) e)
 
       -- it is the arc on x
-      pub is_target : (a : Arrow) → StandsAt arcs n a → t.0 ≡ q → t.1 ≡ x → MoveOn arcs q x (Some a.2)
-      is_target a s e d =
-          let k = stands_same (map arc_key arcs) n (arc_key a) t (stands_map arc_key arcs n a s) at in
-          let p = ap (λ (k : ℕ × ℕ). k.0) k ∙ e in let r = ap (λ (k : ℕ × ℕ). k.1) k ∙ d in
-          let is : a ≡ (q, x, a.2) = λ i. (p i, r i, a.2) in (
-            subst (λ (b : Arrow). Memᴰ b arcs) is (mem_at arcs n a s),
-            λ u m. ap (λ (b : Arrow). b.2) (stands_same arcs n (q, x, u) a (arc_at u m) s),
+      pub is_target : (to : ℕ) → to ≡ a.2 → key.0 ≡ q → key.1 ≡ x → MoveOn arcs q x (Some to)
+      is_target to there e d =
+          let p = sym left ∙ e in let r = sym word ∙ d in
+          let is : a ≡ (q, x, to) = λ i. (p i, r i, sym there i) in (
+            subst (λ (b : Arrow). Memᴰ b arcs) is (mem_at arcs n a at),
+            λ u m. ap (λ (b : Arrow). b.2) (stands_same arcs n (q, x, u) a (arc_at u m) at) ∙ sym there,
           )
 
       -- the least word is that of the arc there, if it leaves q
-      pub no_least : (t.0 ≡ q → ⊥) → LeastWord arcs q x None
-      no_least ne y h (p, m) = let (a, s, e) = its in other_left a s (λ d. ne (ap (λ (k : ℕ × ℕ). k.0) (sym e) ∙ d)) y p h m
+      pub no_least : (key.0 ≡ q → ⊥) → LeastWord arcs q x None
+      no_least ne y h (p, m) = other_left a at (λ e. ne (left ∙ e)) y p h m
 
-      pub is_least : t.0 ≡ q → LeastWord arcs q x (Some t.1)
+      pub is_least : key.0 ≡ q → LeastWord arcs q x (Some key.1)
       is_least h =
-          let (a, s, e) = its in
-          let p : a.0 ≡ q = ap (λ (k : ℕ × ℕ). k.0) e ∙ h in
-          let (l, least) = least_word a s p in
+          let p = sym left ∙ h in
+          let (l, least) = least_word a at p in
           let is : a ≡ (q, a.1, a.2) = λ i. (p i, a.1, a.2) in
-          subst (λ y. LeastWord arcs q x (Some y)) (ap (λ (k : ℕ × ℕ). k.1) e)
-          (l, (a.2, subst (λ (b : Arrow). Memᴰ b arcs) is (mem_at arcs n a s)), λ z h d (p, m). least z p h d m)
+          subst (λ y. LeastWord arcs q x (Some y)) (sym word) (l, (a.2, subst (λ (b : Arrow). Memᴰ b arcs) is (mem_at arcs n a at)), λ z h d (p, m). least z p h d m)

@@ -13,14 +13,6 @@ use Rattle.acceptor.specs.Turns.{First, Next, Tells}
 use Rattle.acceptor.specs.Turns.Tells.{begins, no_word, no_end, unknown, takes, judges}
 
 module _ {A P : Type 0} (runs : Running A P) (a : A) where
-  -- the condition and the event under other names
-  pub tells_as : {c d after : Condition P} {e f : Event} {r : Result Told TurnFault} → c ≡ d → e ≡ f → Tells runs a d f r after → Tells runs a c e r after
-  tells_as {c} {d} {after} {e} {f} {r} p q t = subst (λ x. Tells runs a x e r after) (sym p) (subst (λ y. Tells runs a d y r after) (sym q) t)
-
-  -- and where the turn stays as it was
-  pub tells_kept : {c d : Condition P} {e f : Event} {r : Result Told TurnFault} → c ≡ d → e ≡ f → Tells runs a d f r d → Tells runs a c e r c
-  tells_kept {c} {d} {e} {f} {r} p q t = subst (λ x. Tells runs a x e r x) (sym p) (subst (λ y. Tells runs a d y r d) (sym q) t)
-
   -- ── what was told, by the condition and the event ──
 
   -- begin is told
@@ -60,7 +52,16 @@ module _ {A P : Type 0} (runs : Running A P) (a : A) where
   ToldBy (Open at) (Word x) r after = Refusing at x r after ⊎ Taking at x r after
   ToldBy (Open at) End r after = Judging at r after
 
-  pub told_by : {c after : Condition P} {e : Event} {r : Result Told TurnFault} → Tells runs a c e r after → ToldBy c e r after
+module _ {A P : Type 0} {runs : Running A P} {a : A} where
+  -- the condition and the event under other names
+  pub tells_as : {c d after : Condition P} {e f : Event} {r : Result Told TurnFault} → c ≡ d → e ≡ f → Tells runs a d f r after → Tells runs a c e r after
+  tells_as {c} {d} {after} {e} {f} {r} p q t = subst (λ x. Tells runs a x e r after) (sym p) (subst (λ y. Tells runs a d y r after) (sym q) t)
+
+  -- and where the turn stays as it was
+  pub tells_kept : {c d : Condition P} {e f : Event} {r : Result Told TurnFault} → c ≡ d → e ≡ f → Tells runs a d f r d → Tells runs a c e r c
+  tells_kept {c} {d} {e} {f} {r} p q t = subst (λ x. Tells runs a x e r x) (sym p) (subst (λ y. Tells runs a d y r d) (sym q) t)
+
+  pub told_by : {c after : Condition P} {e : Event} {r : Result Told TurnFault} → Tells runs a c e r after → ToldBy runs a c e r after
   told_by {c} (begins {first = first} h) = record { first = first; told = refl; is = refl; starts = h }
   told_by no_word = (refl, refl)
   told_by no_end = (refl, refl)

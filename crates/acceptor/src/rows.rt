@@ -12,6 +12,7 @@ use fields::format::ARC_SIZE;
 use pga::format::JUMP_SIZE;
 
 /// Rows of `SIZE` bytes, one after the other; each begins with two numbers of two bytes, by which they are ordered. Bytes after the last whole row are not read.
+// That they rise is no ghost field: a file is read without its check, so each call says what it promises of rows that do.
 #[derive(Clone, Copy)]
 pub struct Rows<'a, const SIZE: usize> {
     bytes: &'a [u8],
@@ -25,7 +26,7 @@ pub type Arcs<'a> = Rows<'a, ARC_SIZE>;
 pub type Jumps<'a> = Rows<'a, JUMP_SIZE>;
 
 /// The number in the two bytes at `at`.
-// As `number_at` of `fields`, but in the width of the file: the numbers of an opened acceptor are kept as they stand.
+// Beside `number_at` of `fields`, which gives an index: the numbers of an opened acceptor keep the width of the file, and each is one call.
 pub fn number(bytes: &[u8], at: usize) -> u16
     requires { at + 2 ≤ length bytes.now }
     ensures { result ≡ number_at bytes.now at }

@@ -51,9 +51,5 @@ fn add_rules(table: &mut [u16], name: u16, names: u16, words: u16) -> Result<usi
 
 /// One name that goes on after each of 127 words: 16,384 moves, and near as many jumps.
 pub fn many_moves(table: &mut [u16]) -> Result<usize, BookFault> {
-    let mut used = blank(table, 127, 1, 127)?;
-    for word in 0..127u16 {
-        used = add(table, 127, &[word, 127])?;
-    }
-    Ok(used)
+    chained(table, 1, 127)
 }

@@ -3,6 +3,8 @@ use book::Refusal;
 use compiler::compile::compile_book;
 use compiler::fault::CompileFault;
 use compiler::tables::Tables;
+use fields::format::{ARC_SIZE, MOST_ROWS};
+use pga::format::{ARCS_AT, JUMP_SIZE};
 use pga::listing::Counts;
 use policies::both::Both;
 use policies::last::{Depth, Last};
@@ -11,8 +13,8 @@ use policy::path::Path;
 use policy::stacks::Policy;
 use std::time::Instant;
 
-/// The longest acceptor file: 15 bytes, then six for each arc and four for each jump.
-const LONGEST: usize = 163_855;
+/// The longest acceptor file.
+const LONGEST: usize = ARCS_AT + ARC_SIZE * MOST_ROWS + JUMP_SIZE * MOST_ROWS;
 
 /// Bytes of the working tables at their ceilings: 512 for a state, six for a move, four for a node or a jump.
 const TABLE_BYTES: usize = 802_816;

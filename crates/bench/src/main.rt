@@ -15,6 +15,8 @@ use table::sets::ItemSet;
 /// Room for every book.
 const ENTRIES: usize = 8192;
 
+// Name, table and what the making answered go through two functions, and a struct of them would serve nothing else.
+
 /// Builds the machine of a book, and tells its size and the time.
 fn time_machine(
     rt: &HostRuntime,
@@ -56,6 +58,7 @@ fn time_book(
 /// Times the book that a letter of the standard input asks for; other letters ask for none.
 fn time_asked(rt: &HostRuntime, letter: u8) -> anyhow::Result<()> {
     let mut table = [0; ENTRIES];
+    // A match, and no table of functions: letter, name and book stand on a line each as it is.
     let (name, made) = match letter {
         b'i' => ("4,096 dotted rules", books::many_items(&mut table)),
         b's' => ("near 1,024 states", books::many_states(&mut table)),

@@ -5,6 +5,12 @@ use mathlib.Core.List.{Memᴰ}
 use Rattle.std.specs.List.{AllByRecursion, AllWithin, HoldsAt}
 use Rattle.std.proofs.ByRecursion.{All-from_get_or, All-get_or}
 use Rattle.std.proofs.lemmas.Bool.Decides.{Decides-like}
+use Rattle.std.specs.Iterator.{YieldsFirstBy}
+use Rattle.std.proofs.lemmas.Iterator.{YieldsList}
+use Rattle.std.proofs.lemmas.Iterator.Consumers.{YieldsList-from_first}
+use Rattle.book.specs.declared.rules.Rules.{Rules}
+use Rattle.book.specs.declared.rules.TableRule.{TableRule}
+use Rattle.book.specs.Reading.{rules_in}
 use Rattle.book.specs.Grammar.{Rule, rule, Grammar, LeftLinear, RightLinear}
 use Rattle.book.specs.Shapes.{LeftSide, RightSide}
 
@@ -25,6 +31,11 @@ all_member P (s ∷ rs) r (p, a) m = ⊎_elim (λ e. subst P (sym e) p) (λ k. a
 all_each : (P : Rule → Type 0) (rs : List Rule) → ((r : Rule) → Memᴰ r rs → P r) → AllByRecursion P rs
 all_each P [] f = tt
 all_each P (r ∷ rs) f = (f r (Memᴰ.head refl), all_each P rs (λ s m. f s (Memᴰ.tail m)))
+
+-- the rules of a table, as an iterator over it gives them
+pub rules_given : {s : Rules} {rs : List Rule} → rules_in s.count s.entries.now ≡ rs
+    → YieldsList (YieldsFirstBy (λ (r : TableRule). rule r.left r.right.now) (λ (t : Rules). rules_in t.count t.entries.now)) (λ r. rule r.left r.right.now) s rs
+rules_given {s} {rs} e = YieldsList-from_first (λ (r : TableRule). rule r.left r.right.now) (λ (t : Rules). rules_in t.count t.entries.now) rs e
 
 -- what a test that stops at the first rule that fails found of the rules
 abbrev pub Found : (Rule → Type 0) → List Rule → Bool → Type 0

@@ -5,7 +5,7 @@ use Rattle.std.proofs.lemmas.List.{get_or-take, length-take-le, take-append-drop
 use Rattle.std.proofs.ByRecursion.{All-from_get_or, All-push, All-weaker}
 use Rattle.book.specs.declared.reader.Summary.{Summary}
 use Rattle.book.specs.Grammar.{Rule, rule, Grammar, symbols, with_rule}
-use Rattle.book.specs.Tables.{dots, items, FitRule, Fit, rule_entries, header, entries, used, Begins, Holds}
+use Rattle.book.specs.Tables.{dots, items, FitRule, Fit, rule_entries, header, entries, used, Holds}
 use Rattle.book.specs.Flaws.{SoundTo, Right, size}
 use Rattle.book.specs.Checks.{Headed, RuleChecked, ReadTo, Checked}
 
@@ -142,31 +142,6 @@ read_bound es s i r =
     let k = r.stands in let t = k.takes in let u = k.has in let w = k.words in let n = k.names in
     let f = r.begins.fit in let m = f.small in
     (omega (arith, used_bound r.grammar f), omega arith, omega (arith, f.words.1), omega (arith, f.names.1))
-
-pub begins_holds : {t : List ℕ} {n : ℕ} {g : Grammar} {rest : List ℕ} → Begins t n g rest → length g.rules ≡ n → Holds t g
-begins_holds {t} {n} {g} {rest} b e =
-    record {
-      fit = b.fit;
-      rest = rest;
-      is = b.is ∙ ap (λ k. header g k ++ (flat_map rule_entries g.rules ++ rest)) (sym e);
-    }
-
-pub read_all : (es : List ℕ) (s : Summary) (i : ℕ) → ReadTo es s i → s.rules ≤ i → Checked es (Ok s)
-read_all es s i r end =
-    let g = r.grammar in let k = r.stands in
-    let l = r.begins.so_far in let m = r.number in
-    let whole : length g.rules ≡ s.rules = omega arith in (
-      g,
-      begins_holds r.begins whole,
-      (λ j. record {
-        words = sym k.words j;
-        names = sym k.names j;
-        start = sym r.start j;
-        rules = sym whole j;
-        used = sym k.takes j;
-        items = sym k.has j;
-      }),
-    )
 
 -- what a reader knows of a book whose check passed
 pub record Known (es : List ℕ) (s : Summary) : Type 0 where

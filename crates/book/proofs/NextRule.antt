@@ -11,6 +11,15 @@ use Rattle.book.specs.Flaws.RuleFault.{missing, wrong, too_many}
 use Rattle.book.specs.Checks.{SymbolsTo, SymbolFault, Stands, one_more, RuleChecked}
 use Rattle.book.proofs.Headers.{sound_none, sound_more}
 
+-- the left side and the length n of the next rule are read, and right
+pub record LengthRead (sum : Summary) (es : List ℕ) (n : ℕ) : Type 0 where
+  pub present : sum.used < length es
+  pub least : sum.words ≤ get_or es sum.used 0
+  pub below : get_or es sum.used 0 < sum.words + sum.names
+  pub next : sum.used + 1 < length es
+  pub is : n ≡ get_or es (sum.used + 1) 0
+  pub short : n ≤ 16
+
 module _ (g : Grammar) (sum : Summary) (es : List ℕ) (stands : Stands g sum) where
   abbrev at : ℕ
   at = sum.used
@@ -63,44 +72,44 @@ module _ (g : Grammar) (sum : Summary) (es : List ℕ) (stands : Stands g sum) w
     pub length_wrong : at + 1 < length es → 16 < get_or es (at + 1) 0 → RuleFault g xs (told 4 (at + 1))
     length_wrong q w = wrong_at 1 (at + 1) (omega arith) (sound_left p l u) q (λ r. omega (arith, entry_at 1)) refl
 
-    module _ (n : ℕ) (q : at + 1 < length es) (is : n ≡ get_or es (at + 1) 0) (short : n ≤ 16) where
-      sound_two : SoundTo (Right g xs) xs 2
-      sound_two = sound_more (Right g xs) xs 1 (sound_left p l u) (present_at 1 q) (omega (arith, entry_at 1))
+  module _ {n : ℕ} (read : LengthRead sum es n) where
+    sound_two : SoundTo (Right g xs) xs 2
+    sound_two = sound_more (Right g xs) xs 1 (sound_left read.present read.least read.below) (present_at 1 read.next) (omega (arith, entry_at 1))
 
-      sound_symbols : (k : ℕ) → SymbolsTo es (at + 2) (sum.words + sum.names) (at + k) → SoundTo (Right g xs) xs k
-      sound_symbols k s zero b = sound_two 0 (omega arith)
-      sound_symbols k s (suc zero) b = sound_two 1 (omega arith)
-      sound_symbols k s (suc (suc j)) b =
-          let (r, v) = s (at + suc (suc j)) (omega arith) (omega arith) in
-          let w = stands.words in let u = stands.names in
-          (present_at (suc (suc j)) r, omega (arith, entry_at (suc (suc j))))
+    sound_symbols : (k : ℕ) → SymbolsTo es (at + 2) (sum.words + sum.names) (at + k) → SoundTo (Right g xs) xs k
+    sound_symbols k s zero b = sound_two 0 (omega arith)
+    sound_symbols k s (suc zero) b = sound_two 1 (omega arith)
+    sound_symbols k s (suc (suc j)) b =
+        let (r, v) = s (at + suc (suc j)) (omega arith) (omega arith) in
+        let w = stands.words in let u = stands.names in
+        (present_at (suc (suc j)) r, omega (arith, entry_at (suc (suc j))))
 
-      pub symbol_fault : {f : BookFault} → SymbolFault es (at + 2) (sum.words + sum.names) (at + 2 + n) f → RuleFault g xs (refusal f)
-      symbol_fault s =
-          let j : ℕ = s.index - (at + 2) in
-          let within = s.within in
-          let i : s.index ≡ at + suc (suc j) = omega arith in
-          let before : SoundTo (Right g xs) xs (suc (suc j)) = sound_symbols (suc (suc j)) (subst (SymbolsTo es (at + 2) (sum.words + sum.names)) i s.before) in
-          let inside : suc (suc j) < size xs = omega (arith, entry_at 1) in
-          ⊎_elim
-          (λ m. subst (λ y. RuleFault g xs (refusal y)) (sym m.1) (missing_at (suc (suc j)) s.index inside before m.0 (sym i)))
-          (λ m. subst (λ y. RuleFault g xs (refusal y)) (sym m.2)
-          (wrong_at (suc (suc j)) s.index inside before m.0
-          (λ r. let w = stands.words in let u = stands.names in omega (arith, m.1, entry_at (suc (suc j)), ap (λ k. get_or es k 0) i)) (sym i)))
-          s.fault
+    pub symbol_fault : {f : BookFault} → SymbolFault es (at + 2) (sum.words + sum.names) (at + 2 + n) f → RuleFault g xs (refusal f)
+    symbol_fault s =
+        let j : ℕ = s.index - (at + 2) in
+        let within = s.within in
+        let i : s.index ≡ at + suc (suc j) = omega arith in
+        let before : SoundTo (Right g xs) xs (suc (suc j)) = sound_symbols (suc (suc j)) (subst (SymbolsTo es (at + 2) (sum.words + sum.names)) i s.before) in
+        let inside : suc (suc j) < size xs = omega (arith, entry_at 1) in
+        ⊎_elim
+        (λ m. subst (λ y. RuleFault g xs (refusal y)) (sym m.1) (missing_at (suc (suc j)) s.index inside before m.0 (sym i)))
+        (λ m. subst (λ y. RuleFault g xs (refusal y)) (sym m.2)
+        (wrong_at (suc (suc j)) s.index inside before m.0
+        (λ r. let w = stands.words in let u = stands.names in omega (arith, m.1, entry_at (suc (suc j)), ap (λ k. get_or es k 0) i)) (sym i)))
+        s.fault
 
-      module _ (s : SymbolsTo es (at + 2) (sum.words + sum.names) (at + 2 + n)) where
-        sound_all : SoundTo (Right g xs) xs (size xs)
-        sound_all =
-            let e : at + 2 + n ≡ at + size xs = omega (arith, entry_at 1) in
-            sound_symbols (size xs) (subst (SymbolsTo es (at + 2) (sum.words + sum.names)) e s)
+    module _ (s : SymbolsTo es (at + 2) (sum.words + sum.names) (at + 2 + n)) where
+      sound_all : SoundTo (Right g xs) xs (size xs)
+      sound_all =
+          let e : at + 2 + n ≡ at + size xs = omega (arith, entry_at 1) in
+          sound_symbols (size xs) (subst (SymbolsTo es (at + 2) (sum.words + sum.names)) e s)
 
-        pub items_wrong : 4096 < sum.items + n + 1 → RuleFault g xs (told 6 at)
-        items_wrong w =
-            subst (λ q. RuleFault g xs (told 6 q)) stands.takes
-            (too_many sound_all (let k = stands.has in omega (arith, entry_at 1)))
+      pub items_wrong : 4096 < sum.items + n + 1 → RuleFault g xs (told 6 at)
+      items_wrong w =
+          subst (λ q. RuleFault g xs (told 6 q)) stands.takes
+          (too_many sound_all (let k = stands.has in omega (arith, entry_at 1)))
 
-        pub rule_sound : {s : Summary} → s ≡ one_more n sum → sum.items + n + 1 ≤ 4096 → RuleChecked g sum xs (Ok s)
-        rule_sound e w =
-            let l : n ≡ get_or xs 1 0 = omega (arith, entry_at 1) in
-            (e ∙ ap (λ k. one_more k sum) l, sound_all, (let k = stands.has in omega arith))
+      pub rule_sound : {s : Summary} → s ≡ one_more n sum → sum.items + n + 1 ≤ 4096 → RuleChecked g sum xs (Ok s)
+      rule_sound e w =
+          let l : n ≡ get_or xs 1 0 = omega (arith, entry_at 1) in
+          (e ∙ ap (λ k. one_more k sum) l, sound_all, (let k = stands.has in omega arith))

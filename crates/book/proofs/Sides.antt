@@ -1,12 +1,8 @@
 -- Right sides by their first and by their last symbol.
-use Rattle.std.proofs.Common.{◌≡◌, ℕ, ◌+◌, ◌-◌, ◌<◌, ◌≤◌, Bool, true, false, MatchBool, List, [], ◌∷◌, length, get_or, take, drop, Decides, sym, refl, ap, ◌∙◌, subst, arith}
+use Rattle.std.proofs.Common.{◌≡◌, ℕ, ◌+◌, ◌-◌, ◌<◌, ◌≤◌, Bool, List, [], ◌∷◌, length, get_or, take, drop, Decides, sym, refl, ap, ◌∙◌, subst, arith}
 use Rattle.std.specs.List.{AllByRecursion}
 use Rattle.std.proofs.lemmas.List.{take_at, take_more, length_push, take_all}
 use Rattle.book.specs.Shapes.{LeftSide, RightSide}
-
-pub by_cases : {P : Type 0} (r : Bool) → Decides r P → MatchBool r P (P → ⊥)
-by_cases true d = d.0 refl
-by_cases false d = λ p. absurd (let e : false ≡ true = d.1 p in cc)
 
 pub left_decides : (w : ℕ) (xs : List ℕ) (r : Bool) → 1 ≤ length xs → Decides r (AllByRecursion (λ y. y < w) (take (length xs - 1) (drop 1 xs))) → Decides r (LeftSide w xs)
 left_decides w [] r h d = absurd (omega arith)

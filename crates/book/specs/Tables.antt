@@ -1,5 +1,5 @@
 -- How a table of numbers holds a grammar.
-use Rattle.std.specs.Prelude.{◌≡◌, ℕ, suc, ◌+◌, ◌<◌, ◌≤◌, List, [], ◌∷◌, ◌++◌, length, take}
+use Rattle.std.specs.Prelude.{◌≡◌, ℕ, suc, ◌+◌, ◌<◌, ◌≤◌, List, [], ◌∷◌, ◌++◌, length}
 use Rattle.std.specs.List.{flat_map, AllByRecursion}
 use Rattle.book.specs.Grammar.{Rule, Grammar, symbols}
 
@@ -45,10 +45,6 @@ entries g = header g (length g.rules) ++ flat_map rule_entries g.rules
 -- how many entries a grammar takes
 abbrev pub used : Grammar → ℕ
 used g = 4 + length (flat_map rule_entries g.rules)
-
--- where the rule of number i stands
-abbrev pub place : List Rule → ℕ → ℕ
-place rs i = 4 + length (flat_map rule_entries (take i rs))
 
 -- the table's header counts n rules, its first rules are those of g, and `rest` stands after them
 pub record Begins (t : List ℕ) (n : ℕ) (g : Grammar) (rest : List ℕ) : Type 0 where

@@ -18,6 +18,7 @@ const VERSION: u16 = 1;
 const FRONT: usize = 5;
 
 /// Whether a file is long enough, has its mark and version, and no half number at its end.
+// Not that of `fields`, which stands above the book and judges field by field: here the length comes first, and faults are a book's own.
 fn check_mark(file: &[u8]) -> Result<(), BookFault>
     ensures { MarkChecked file.now result }
 {

@@ -8,7 +8,7 @@ ghost use Rattle.book.specs.Reading.{rules_in};
 
 use super::reader::Summary;
 
-/// A rule as it stands in a table: its left side and its right side.
+/// A rule: its left side, and its right side where that stands.
 #[derive(Clone, Copy)]
 pub struct TableRule<'a> {
     pub left: u16,
@@ -23,6 +23,8 @@ pub struct Rules<'a> {
 }
 
 impl<'a> Rules<'a> {
+    // Table and summary side by side: a struct of both would ask where it is made what is asked here.
+
     /// The rules of the grammar that a table holds, where its check gave `book`.
     pub fn of(table: &'a [u16], book: Summary) -> Rules<'a>
         requires { Checked table.now (Ok book) }

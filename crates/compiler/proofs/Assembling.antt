@@ -93,9 +93,6 @@ module _ {book : List ℕ} {s : Summary} (k : Known book s) {rows : List (Number
 
   module _ {m : Meaning} {room : Room} {held : List Class} {nodes : List Node} {unfolded : List (Move NodeNo)} {c : Count}
       (u : UnfoldedIn m room (state_table ms.moves moves) (s.words + s.names) held nodes unfolded c) where
-    abbrev nodes' : List MeantNode
-    nodes' = nodes_of held (take c.entries nodes)
-
     pub is_unfolded : Unfolded m (state_table ms.moves moves) (symbols mi.grammar) (nodes_of held (take c.entries nodes)) (node_arrows (take c.moves unfolded))
     is_unfolded = subst (λ n. Unfolded m (state_table ms.moves moves) n (nodes_of held (take c.entries nodes)) (node_arrows (take c.moves unfolded))) (sym symbols_is) u.unfolded
 

@@ -2,3 +2,4 @@ pub mod Composing
 pub mod Fitting
 pub mod Assembling
 pub mod Accepting
+pub mod Handing

@@ -45,7 +45,7 @@ pub fn compile_book<P: Policy>(
         })
         out.old result out.new }
 {
-    // Taken apart: no rule of proof covers a write to one field's table while another field is lent.
+    // Taken apart: no rule of proof covers a write to one field's table while a `&` into another field's is in use.
     let Workspace {
         states,
         moves,

@@ -60,7 +60,7 @@ impl From<JumpFault> for CompileFault {
     }
 }
 
-// The case holds the bytes alone: the layer of a short output depends on the call, so the struct has no refusal.
+// The case has the number alone: which layer tells of a short output depends on the call, so the struct is not carried.
 
 impl From<TooShort> for CompileFault {
     ghost from_gives = { λ f r. r ≡ OutputShort f.needed };

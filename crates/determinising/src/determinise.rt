@@ -5,17 +5,19 @@ ghost use Rattle.determinising.specs.Determinising.{DeterminisedOr};
 use crate::fault::{DeterminiseFault, SubsetCounts};
 use crate::space::NodeSets;
 use acceptor::flat::Flat;
+use fields::format::MOST_ROWS;
 use finding::moves::{Count, Limits, Move};
 use finding::order::number;
 use pga::check::check_file;
+use pgd::format::MOST_STATES;
 use pgd::writer::{Parts, write};
 use table::numbers::{NodeNo, StateNo};
 use table::sets::NodeSet;
 
 /// At most so many sets and arcs, however long the tables are.
 const LIMITS: Limits = Limits {
-    entries: 1024,
-    moves: 16384,
+    entries: MOST_STATES,
+    moves: MOST_ROWS,
 };
 
 /// Writes the file of the determinised acceptor of an acceptor file; sets and arcs are worked out in the lent tables.

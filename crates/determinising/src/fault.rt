@@ -8,6 +8,7 @@ use fields::fault::{AcceptorFault, OutputShort};
 use finding::moves::Stop;
 
 /// How many states and arcs a determinised acceptor has.
+// Not a `Count` of `finding`, though of its shape: this is told outward, of states and arcs.
 #[derive(Clone, Copy, PartialEq, Eq, Debug)]
 pub struct SubsetCounts {
     pub states: usize,
@@ -46,7 +47,7 @@ impl From<Stop> for DeterminiseFault {
     }
 }
 
-// The case holds the bytes alone, as each case of a limit holds its number: the layer of a short output depends on the call, so the struct has no refusal.
+// The case has the number alone, as each case of a limit has it: which layer tells of a short output depends on the call.
 
 impl From<OutputShort> for DeterminiseFault {
     ghost from_gives = { λ f r. r ≡ Short f.needed };

@@ -1,6 +1,7 @@
 //! Sets of nodes as a space: each leads on a word where all arcs on it, and then all jumps, lead.
 ghost use Rattle.std.specs.Prelude.{ℕ, List};
 ghost use Rattle.table.specs.Sets.{members};
+ghost use Rattle.table.proofs.Same.{set_exact};
 ghost use Rattle.theory.specs.Flattening.{Acceptor};
 ghost use Rattle.pga.specs.Files.{Fit};
 ghost use Rattle.acceptor.specs.Flats.{acceptor_of};
@@ -39,4 +40,6 @@ impl Space for NodeSets<'_> {
     fn reach(&mut self, e: NodeSet, x: u16) -> Option<NodeSet> {
         Some(self.flat.word_set(&e, x))
     }
+
+    ghost exact = { set_exact };
 }

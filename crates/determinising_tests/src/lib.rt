@@ -6,7 +6,9 @@ use compiler::compile::compile_book;
 use compiler::tables::Tables;
 use determinising::determinise::determinise;
 use determinising::fault::SubsetCounts;
+use fields::format::ARC_SIZE;
 use finding::moves::Move;
+use pga::format::{ARCS_AT, JUMP_SIZE};
 use policy::path::Path;
 use table::sets::NodeSet;
 
@@ -22,7 +24,8 @@ struct Rows {
 fn compile_path(book: &[u16], file: &mut [u8]) -> Result<usize, Refusal> {
     let mut tables = Tables::<16, 16, 16, 16>::new();
     let counts = compile_book(book, &mut Path::new(), tables.lend(), file)?;
-    Ok((15 + 6 * counts.arcs.min(16) + 4 * counts.jumps.min(16)).min(file.len()))
+    let end = ARCS_AT + ARC_SIZE * counts.arcs.min(16) + JUMP_SIZE * counts.jumps.min(16);
+    Ok(end.min(file.len()))
 }
 
 /// Determinises a file in tables of these rows, at most sixteen each.
@@ -59,6 +62,7 @@ const NESTED_OUT: [u8; 39] = [
 ];
 
 /// Tables and outputs too short by one or empty, and the refusal of each.
+// Beside compile's tests: each list and each `refuses` has the tables of its own call, and what is alike is that they are lists.
 const SHORT: [(Rows, u8, usize); 9] = [
     (Rows { states: 2, ..EXACT }, 18, 2),
     (Rows { states: 1, ..EXACT }, 18, 1),

@@ -12,6 +12,7 @@ use Rattle.finding.specs.Finding.{arrow}
 use Rattle.fields.specs.Arcs.{arc_numbers}
 use Rattle.fields.specs.declared.output.Output.{Output}
 use Rattle.fields.specs.Putting.{Puts}
+use Rattle.fields.proofs.Lists.{all_same}
 use Rattle.fields.proofs.Putting.{puts_then}
 
 -- the bytes of arcs
@@ -60,11 +61,6 @@ module _ {N : Type 0} (value : N → ℕ) (wants : Move N → Bool) (ms : List (
 -- as many arcs, and then the rest, are equal where their numbers are
 pub same_arcs : (ms ns : List Arrow) (xs ys : List ℕ) → length ms ≡ length ns → flat_map arc_numbers ms ++ xs ≡ flat_map arc_numbers ns ++ ys
     → (ms ≡ ns) × (xs ≡ ys)
-same_arcs [] [] xs ys l e = (refl, e)
-same_arcs [] (n ∷ ns) xs ys l e = absurd (omega arith)
-same_arcs (m ∷ ms) [] xs ys l e = absurd (omega arith)
-same_arcs (m ∷ ms) (n ∷ ns) xs ys l e =
-    let p : m.0 ≡ n.0 = cc in let q : m.1 ≡ n.1 = cc in let r : m.2 ≡ n.2 = cc in
-    let t : flat_map arc_numbers ms ++ xs ≡ flat_map arc_numbers ns ++ ys = cc in
-    let (k, z) = same_arcs ms ns xs ys (omega arith) t in
-    ((λ i. (p i, q i, r i) ∷ k i), z)
+same_arcs =
+    all_same arc_numbers
+    (λ m n us vs e. let p : m.0 ≡ n.0 = cc in let q : m.1 ≡ n.1 = cc in let r : m.2 ≡ n.2 = cc in ((λ i. (p i, q i, r i)), cc))

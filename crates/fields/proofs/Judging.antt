@@ -1,14 +1,19 @@
 -- Checks one after the other.
-use Rattle.std.proofs.Common.{◌≡◌, ℕ, zero, suc, ◌+◌, ◌-◌, ◌*◌, ◌<◌, ◌≤◌, List, [], ◌∷◌, ◌++◌, length, get_or, take, drop, Ok, Err, Result, sym, ap, ◌∙◌, subst, ⊎_elim, mul-add, add-one, arith}
+use Rattle.std.proofs.Common.{◌≡◌, ℕ, zero, suc, ◌+◌, ◌-◌, ◌*◌, ◌<◌, ◌≤◌, List, [], ◌∷◌, ◌++◌, length, get_or, take, drop, Ok, Err, Result, IsErrAnd, sym, ap, ◌∙◌, subst, ⊎_elim, mul-add, add-one, arith}
 use Rattle.std.specs.List.{AllByRecursion}
 use Rattle.std.proofs.lemmas.List.{take-append-drop, drop_more, length-take-le}
 use Rattle.std.proofs.ByRecursion.{All-append}
 use Rattle.std.proofs.lemmas.Bool.{cases_lt}
+use Rattle.std.proofs.lemmas.Result.{err_from_is_err_and}
 use Rattle.book.specs.declared.fault.Refusal.{Refusal}
 use Rattle.fields.specs.declared.fault.AcceptorFault.{AcceptorFault}
 use Rattle.fields.specs.Flaws.{Check, marked, ranged, flagged, Passes, Fault, First, fields, parts, flags, row, rows}
 use Rattle.fields.specs.Judged.{NumberJudged, FrontJudged}
 use Rattle.fields.specs.Flaws.First.{here, later}
+
+-- a fault that `?` passes on as it is
+pub passed_on : {T E : Type 0} {r : Result T E} {e : E} → IsErrAnd r (λ y. y ≡ e) → r ≡ Err e
+passed_on {r = r} h = let p = err_from_is_err_and r h in p.1 ∙ ap Err p.2
 
 module _ (bytes : List ℕ) where
   pub first_left : {cs : List Check} {f : Refusal} → First bytes cs f → (ds : List Check) → First bytes (cs ++ ds) f

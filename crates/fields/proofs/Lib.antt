@@ -4,6 +4,7 @@ pub mod Putting
 pub mod Arcs
 pub mod Read
 pub mod Judging
+pub mod Parts
 pub mod Rising
 pub mod Faults
 pub mod Files

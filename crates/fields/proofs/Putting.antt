@@ -54,23 +54,3 @@ module _ (before : Output) where
 
     pub puts_all : (after : Output) → length xs ≤ i → Puts before (flat_map f (take i xs)) after → Puts before (flat_map f xs) after
     puts_all after h x = subst (λ l. Puts before (flat_map f l) after) (take_all i xs h) x
-
--- bytes that are put in front, where there is room
-pub record InFront (bytes out out' : List ℕ) (n : ℕ) : Type 0 where
-  pub used : n ≡ length bytes
-  pub is : out' ≡ bytes ++ drop n out
-  pub front : take n out' ≡ bytes
-
-pub put_front : (bytes out out' : List ℕ) (n : ℕ) → length bytes ≤ length out → Put out 0 bytes out' n → InFront bytes out out' n
-put_front bytes out out' n room p =
-    let used : n ≡ length bytes = p.ends ∙ omega arith in
-    let that : out' ≡ bytes ++ drop n out = p.is (omega arith) in
-    record { used = used; is = that; front = ap (take n) that ∙ take_at bytes (drop n out) n (sym used) }
-
--- an output from its first byte on
-pub puts_front : (first last : Output) (bytes out out' : List ℕ) (n : ℕ) → first.bytes.now ≡ out → first.at ≡ 0 → out' ≡ last.bytes.now → n ≡ last.at
-    → Puts first bytes last → Put out 0 bytes out' n
-puts_front first last bytes out out' n o a o' e p =
-    subst (λ l. Put l 0 bytes out' n) o
-    (subst (λ k. Put first.bytes.now k bytes out' n) a
-    (subst (λ l. Put first.bytes.now first.at bytes l n) (sym o') (subst (Put first.bytes.now first.at bytes last.bytes.now) (sym e) p.put)))

@@ -1,7 +1,7 @@
 -- Bytes are those of the numbers and arcs that are read off them.
-use Rattle.std.proofs.Common.{◌≡◌, ℕ, zero, suc, ◌+◌, ◌*◌, ◌/◌, ◌%◌, ◌<◌, ◌≤◌, List, [], ◌∷◌, ◌++◌, map, length, get_or, drop, sym, ap, ◌∙◌, append_assoc, mul-add, add-one, arith}
+use Rattle.std.proofs.Common.{◌≡◌, ℕ, zero, suc, ◌+◌, ◌*◌, ◌/◌, ◌%◌, ◌<◌, ◌≤◌, List, [], ◌∷◌, ◌++◌, map, length, get_or, take, drop, sym, ap, ◌∙◌, append-nil, append_assoc, mul-add, add-one, arith}
 use Rattle.std.specs.List.{flat_map, AllByRecursion, range_with_len}
-use Rattle.std.proofs.lemmas.List.{drop_more, flat_map_more}
+use Rattle.std.proofs.lemmas.List.{take-append-drop, drop_all, drop_more, flat_map_more}
 use Rattle.std.proofs.ByRecursion.{All-get_or}
 use Rattle.std.proofs.lemmas.List.FromFn.{map-range_with_len_more}
 use Rattle.book.specs.Files.{bytes_of}
@@ -25,6 +25,14 @@ module _ (bytes : List ℕ) {A : Type 0} (text : A → List ℕ) (made : ℕ →
       ∙ ap (λ l. before ++ l) (each n (omega arith) ∙ ap (λ m. text (made n) ++ drop m bytes) e)
       ∙ sym (append_assoc before (text (made n)) (drop (start + width * suc n) bytes))
       ∙ ap (λ l. l ++ drop (start + width * suc n) bytes) more
+
+-- bytes are their parts, each of which is read where the one before it ends
+pub parts_read : (bytes mark header one two : List ℕ) (m p q r : ℕ) → take m bytes ≡ mark → drop m bytes ≡ header ++ drop p bytes
+    → drop p bytes ≡ one ++ drop q bytes → drop q bytes ≡ two ++ drop r bytes → length bytes ≤ r → bytes ≡ mark ++ (header ++ (one ++ two))
+parts_read bytes mark header one two m p q r a b c d h =
+    sym (take-append-drop m bytes) ∙ ap (λ l. l ++ drop m bytes) a
+    ∙ ap (λ l. mark ++ l)
+    (b ∙ ap (λ l. header ++ l) (c ∙ ap (λ l. one ++ l) (d ∙ ap (λ l. two ++ l) (drop_all r bytes h) ∙ append-nil two)))
 
 module _ (bytes : List ℕ) (small : AllByRecursion (λ b. b < 256) bytes) where
   number_read : (at : ℕ) → at + 2 ≤ length bytes → drop at bytes ≡ bytes_of (number_at bytes at) ++ drop (at + 2) bytes

@@ -1,12 +1,12 @@
 -- Rows that pass their checks are arcs within their ranges, rising, and back.
-use Rattle.std.proofs.Common.{◌≡◌, ℕ, zero, suc, ◌+◌, ◌-◌, ◌*◌, ◌<◌, ◌≤◌, ◌⊎◌, List, [], ◌∷◌, length, sym, refl, ap, ◌∙◌, subst, inl, inr, mul-add, add-one, arith}
-use Rattle.std.specs.List.{AllByRecursion}
+use Rattle.std.proofs.Common.{◌≡◌, ℕ, zero, suc, ◌+◌, ◌-◌, ◌*◌, ◌<◌, ◌≤◌, ◌⊎◌, List, [], ◌∷◌, map, length, sym, refl, ap, ◌∙◌, subst, inl, inr, mul-add, add-one, arith}
+use Rattle.std.specs.List.{AllByRecursion, range_with_len}
 use Rattle.table.specs.Lists.{InOrder}
 use Rattle.finding.specs.Numbered.{Arrow}
 use Rattle.finding.specs.Laws.{Rises}
 use Rattle.fields.specs.Arcs.{ArcWithin}
 use Rattle.fields.specs.Reading.{number_at, arc_in, arcs_from}
-use Rattle.fields.specs.Flaws.{RowRises, Passes, row, rows}
+use Rattle.fields.specs.Flaws.{Check, RowRises, Passes, row, rows}
 use Rattle.fields.proofs.Judging.{each_part, every_part}
 use Rattle.fields.proofs.Counted.{all_made, each_made, order_next, made_in_order}
 
@@ -41,6 +41,31 @@ module _ (bytes : List ℕ) (start width : ℕ) where
       let e : start + width * j ≡ start + width * suc j - width = omega arith in
       subst (λ m. RowRises bytes m (start + width * suc j)) e (up j refl)
 
+-- rows, of each of which something is made
+module _ (bytes : List ℕ) (start : ℕ) (limits : List ℕ) (n : ℕ) {A : Type 0} (made : ℕ → A) where
+  abbrev row_at : ℕ → List Check
+  row_at k = row start limits (start + 2 * length limits * k)
+
+  abbrev pub PassesRow : ℕ → Type 0
+  PassesRow k = AllByRecursion (Passes bytes) (row_at k)
+
+  -- where they pass, so much holds of each, and of each and the next
+  module _ (a : AllByRecursion (Passes bytes) (rows start limits n)) where
+    pub rows_within : (P : A → Type 0) → ((k : ℕ) → PassesRow k → P (made k)) → AllByRecursion P (map made (range_with_len 0 n))
+    rows_within P within = all_made made n P (λ k h. within k (each_part bytes row_at n a k h))
+
+    pub rows_rise : (R : A → A → Type 0) → ((x y z : A) → R x y → R y z → R x z) → ((k : ℕ) → PassesRow (suc k) → R (made k) (made (suc k)))
+        → InOrder R (map made (range_with_len 0 n))
+    rows_rise R chain rise = made_in_order made n R chain (λ k h. rise k (each_part bytes row_at n a (suc k) h))
+
+  -- and back
+  pub rows_pass : (P : A → Type 0) (R : A → A → Type 0) → ((k : ℕ) → k < n → P (made k) → ((j : ℕ) → k ≡ suc j → R (made j) (made k)) → PassesRow k)
+      → AllByRecursion P (map made (range_with_len 0 n)) → InOrder R (map made (range_with_len 0 n)) → AllByRecursion (Passes bytes) (rows start limits n)
+  rows_pass P R passes within up =
+      every_part bytes row_at n
+      (λ k h. passes k h (each_made made n P within k h)
+      (λ j e. subst (λ m. R (made j) (made m)) (sym e) (order_next made n R up j (omega arith))))
+
 module _ (bytes : List ℕ) (start words positions n : ℕ) where
   abbrev limits : List ℕ
   limits = positions ∷ (words ∷ (positions ∷ []))
@@ -49,7 +74,7 @@ module _ (bytes : List ℕ) (start words positions n : ℕ) where
   arc k = arc_in bytes (start + 6 * k)
 
   abbrev PassesArc : ℕ → Type 0
-  PassesArc k = AllByRecursion (Passes bytes) (row start limits (start + 6 * k))
+  PassesArc k = PassesRow bytes start limits n arc k
 
   arc_within : (k : ℕ) → PassesArc k → ArcWithin words positions (arc k)
   arc_within k (p, (q, (r, s))) =
@@ -72,20 +97,14 @@ module _ (bytes : List ℕ) (start words positions n : ℕ) where
       )
 
   module _ (a : AllByRecursion (Passes bytes) (rows start limits n)) where
-    passes_arc : (k : ℕ) → k < n → PassesArc k
-    passes_arc = each_part bytes (λ k. row start limits (start + 6 * k)) n a
-
     pub arcs_within : AllByRecursion (ArcWithin words positions) (arcs_from bytes start n)
-    arcs_within = all_made arc n (ArcWithin words positions) (λ k h. arc_within k (passes_arc k h))
+    arcs_within = rows_within bytes start limits n arc a (ArcWithin words positions) arc_within
 
     pub arcs_rise : InOrder Rises (arcs_from bytes start n)
     arcs_rise =
-        made_in_order arc n Rises rises_chain
-        (λ k h. let (p, (q, (r, (s, u)))) = passes_arc (suc k) h in row_rises_next bytes start 6 k (omega arith) s.1)
+        rows_rise bytes start limits n arc a Rises rises_chain
+        (λ k p. row_rises_next bytes start 6 k (omega arith) p.1.1.1.0.1)
 
   pub arcs_pass : start + 6 * n ≤ length bytes → AllByRecursion (ArcWithin words positions) (arcs_from bytes start n) → InOrder Rises (arcs_from bytes start n)
       → AllByRecursion (Passes bytes) (rows start limits n)
-  arcs_pass long within up =
-      every_part bytes (λ k. row start limits (start + 6 * k)) n
-      (λ k h. arc_passes k (omega arith) (each_made arc n (ArcWithin words positions) within k h)
-      (λ j e. subst (λ m. Rises (arc j) (arc m)) (sym e) (order_next arc n Rises up j (omega arith))))
+  arcs_pass long = rows_pass bytes start limits n arc (ArcWithin words positions) Rises (λ k h. arc_passes k (omega arith))

@@ -8,6 +8,8 @@ use crate::fault::AcceptorFault;
 use crate::format::{MOST_WORDS, VERSION};
 use std::ops::Range;
 
+// A file and a place in it, side by side throughout: each check is of another place, so a struct of both would be made anew for each.
+
 /// The number in the two bytes at `at`.
 pub fn number_at(file: &[u8], at: usize) -> usize
     requires { at + 2 ≤ length file.now }

@@ -9,7 +9,8 @@ use finding::moves::Move;
 use table::numbers::Number;
 
 /// An output, and the place of the next byte in it. Bytes for which there is no room are counted, and not written.
-// Bytes and a place: what has no room is counted too, which a slice that shrinks would not tell.
+// Bytes and a place: what has no room is counted too, which a slice that shrinks would not tell. Each call asks that the count has room for what it puts: it goes on
+// past the end, so no length bounds it.
 #[derive(Drop)]
 pub struct Output<'a> {
     bytes: &'a mut [u8],

@@ -1,4 +1,4 @@
--- One outcome at most: a search has one numbering, or one refusal, and never both.
+-- One outcome at most: a search that ends is not refused, and one that is refused is so by one cause.
 use Rattle.std.proofs.Common.{◌≡◌, ℕ, ◌+◌, List, [], ◌∷◌, ◌++◌, length, sym, refl, ap, subst, inl, inr, arith}
 use mathlib.Core.Option.{none}
 use Rattle.finding.specs.declared.moves.Stop.{Stop}
@@ -26,6 +26,9 @@ module _ {A : Type 0} {w : Bounded A} where
   leads_rests {p} {t} {a} l s n =
       let e : a ≡ l.at = cc in
       let step-same = ap (λ v. w.sought.step v p.symbol) e in cc
+
+  room_same : {p : Place A} {t u : A} → Leads w p t → Leads w p u → w.sought.room p.entries t → w.sought.room p.entries u
+  room_same {p} a b r = subst (λ v. w.sought.room p.entries v) (leads_same a b) r
 
   moves_on : {p : Place A} {t u : A} → Leads w p t → Leads w p u → Lacks p.entries t → (j : ℕ) → StandsAt p.entries j u → ⊥
   moves_on {p} a b l j s = l j (subst (λ v. StandsAt p.entries j v) (leads_same b a) s)
@@ -56,14 +59,10 @@ module _ {A : Type 0} {w : Bounded A} where
   turn_distinct {p} d (new t l h r e m) = distinct_push p.entries t d h
   turn_distinct d (next i x) = d
 
-  pub turns_distinct : {p q : Place A} → Distinct p.entries → Turns w p q → Distinct q.entries
-  turns_distinct d stay = d
-  turns_distinct d (more f t) = turn_distinct (turns_distinct d f) t
-
   stopped_stuck : {p : Place A} {s : Stop} → Stopped w p s → (q : Place A) → Turn w p q → ⊥
   stopped_stuck (no_room t l h n) q (pass a s b g) = leads_rests l s g
   stopped_stuck (no_room t l h n) q (old t' j l' h' m) = moves_on l l' h j h'
-  stopped_stuck {p} (no_room t l h n) q (new t' l' h' r e m) = n (subst (λ v. w.sought.room p.entries v) (leads_same l' l) r)
+  stopped_stuck {p} (no_room t l h n) q (new t' l' h' r e m) = n (room_same l' l r)
   stopped_stuck (no_room t l h n) q (next i x) = omega (arith, l.below)
   stopped_stuck (no_entry t l h r n) q (pass a s b g) = leads_rests l s g
   stopped_stuck (no_entry t l h r n) q (old t' j l' h' m) = moves_on l l' h j h'
@@ -74,10 +73,14 @@ module _ {A : Type 0} {w : Bounded A} where
   stopped_stuck (no_move t l h n) q (new t' l' h' r' e m) = omega arith
   stopped_stuck (no_move t l h n) q (next i x) = omega (arith, l.below)
 
+  -- where every entry found has its moves taken, none is at hand
+  none_leads : (es : List A) (ms : List Arrow₃) {t : A} → Leads w (place es ms (length es) 0) t → ⊥
+  none_leads es ms l = omega (arith, stands_below es (length es) l.at l.stands)
+
   ended_stuck : (es : List A) (ms : List Arrow₃) (q : Place A) → Turn w (place es ms (length es) 0) q → ⊥
   ended_stuck es ms q (pass a s b g) = omega (arith, stands_below es (length es) a s)
-  ended_stuck es ms q (old t j l h m) = omega (arith, stands_below es (length es) l.at l.stands)
-  ended_stuck es ms q (new t l h r e m) = omega (arith, stands_below es (length es) l.at l.stands)
+  ended_stuck es ms q (old t j l h m) = none_leads es ms l
+  ended_stuck es ms q (new t l h r e m) = none_leads es ms l
   ended_stuck es ms q (next i x) = omega arith
 
   ahead : {p q r : Place A} → Turns w p q → Ahead w q r → Ahead w p r
@@ -94,26 +97,17 @@ module _ {A : Type 0} {w : Bounded A} where
   both : {start : A} {p q : Place A} → Turns w (place (start ∷ []) [] 0 0) p → ((s : Place A) → Turn w p s → ⊥) → Turns w (place (start ∷ []) [] 0 0) q → ((s : Place A) → Turn w q s → ⊥) → p ≡ q
   both {start} f x g y = ahead_same (distinct_one start) (ahead f here) x (ahead g here) y
 
-  pub whole_distinct : {start : A} {es : List A} {ms : List Arrow₃} → Whole w start es ms → Distinct es
-  whole_distinct {start} f = turns_distinct (distinct_one start) f.1
-
-  -- one numbering at most
-  pub whole_same : {start : A} {es es' : List A} {ms ms' : List Arrow₃} → Whole w start es ms → Whole w start es' ms' → (es ≡ es') × (ms ≡ ms')
-  whole_same {es = es} {es'} {ms} {ms'} f g =
-      let e = both f.1 (ended_stuck es ms) g.1 (ended_stuck es' ms') in
-      (ap (λ (p : Place A). p.entries) e, ap (λ (p : Place A). p.moves) e)
-
   stopped_same : {p : Place A} {s s' : Stop} → Stopped w p s → Stopped w p s' → s ≡ s'
   stopped_same (no_room t l h n) (no_room t' l' h' n') = refl
-  stopped_same {p} (no_room t l h n) (no_entry t' l' h' r' n') = absurd (n (subst (λ v. w.sought.room p.entries v) (leads_same l' l) r'))
+  stopped_same {p} (no_room t l h n) (no_entry t' l' h' r' n') = absurd (n (room_same l' l r'))
   stopped_same (no_room t l h n) (no_move t' l' (inl a) n') = absurd (moves_on l l' h a.0 a.1)
-  stopped_same {p} (no_room t l h n) (no_move t' l' (inr a) n') = absurd (n (subst (λ v. w.sought.room p.entries v) (leads_same l' l) a.1))
-  stopped_same {p} (no_entry t l h r n) (no_room t' l' h' n') = absurd (n' (subst (λ v. w.sought.room p.entries v) (leads_same l l') r))
+  stopped_same {p} (no_room t l h n) (no_move t' l' (inr a) n') = absurd (n (room_same l' l a.1))
+  stopped_same {p} (no_entry t l h r n) (no_room t' l' h' n') = absurd (n' (room_same l l' r))
   stopped_same (no_entry t l h r n) (no_entry t' l' h' r' n') = refl
   stopped_same (no_entry t l h r n) (no_move t' l' (inl a) n') = absurd (moves_on l l' h a.0 a.1)
   stopped_same (no_entry t l h r n) (no_move t' l' (inr a) n') = absurd (omega (arith, a.2))
   stopped_same (no_move t l (inl a) n) (no_room t' l' h' n') = absurd (moves_on l' l h' a.0 a.1)
-  stopped_same {p} (no_move t l (inr a) n) (no_room t' l' h' n') = absurd (n' (subst (λ v. w.sought.room p.entries v) (leads_same l l') a.1))
+  stopped_same {p} (no_move t l (inr a) n) (no_room t' l' h' n') = absurd (n' (room_same l l' a.1))
   stopped_same (no_move t l (inl a) n) (no_entry t' l' h' r' n') = absurd (moves_on l' l h' a.0 a.1)
   stopped_same (no_move t l (inr a) n) (no_entry t' l' h' r' n') = absurd (omega (arith, a.2))
   stopped_same (no_move t l a n) (no_move t' l' a' n') = refl
@@ -126,13 +120,13 @@ module _ {A : Type 0} {w : Bounded A} where
   refused_same {s = s} (met p f x) (met q g y) =
       stopped_same (subst (λ v. Stopped w v s) (both f.1 (stopped_stuck x) g.1 (stopped_stuck y)) x) y
 
-  -- and not both
+  -- and none where the search ends
   pub whole_or_refused : {start : A} {es : List A} {ms : List Arrow₃} {s : Stop} → Whole w start es ms → Refused w start s → ⊥
   whole_or_refused f (empty b) = omega (arith, f.0)
   whole_or_refused {es = es} {ms} {s} f (met q g y) =
       ended_leads es ms (subst (λ v. Stopped w v s) (both g.1 (stopped_stuck y) f.1 (ended_stuck es ms)) y)
     where
       ended_leads : (es : List A) (ms : List Arrow₃) → {s : Stop} → Stopped w (place es ms (length es) 0) s → ⊥
-      ended_leads es ms (no_room t l h n) = omega (arith, stands_below es (length es) l.at l.stands)
-      ended_leads es ms (no_entry t l h r n) = omega (arith, stands_below es (length es) l.at l.stands)
-      ended_leads es ms (no_move t l h n) = omega (arith, stands_below es (length es) l.at l.stands)
+      ended_leads es ms (no_room t l h n) = none_leads es ms l
+      ended_leads es ms (no_entry t l h r n) = none_leads es ms l
+      ended_leads es ms (no_move t l h n) = none_leads es ms l

@@ -1,9 +1,8 @@
 -- What a search has found when it ends is the numbering of the finding order.
-use Rattle.std.proofs.Common.{◌≡◌, ℕ, zero, suc, ◌+◌, ◌<◌, ◌≤◌, ◌≢◌, ◌⊎◌, List, [], ◌∷◌, ◌++◌, length, take, sym, refl, ap, ◌∙◌, subst, inl, inr, ⊎_elim, append_assoc, append-nil, add-one, arith, length-take-le}
+use Rattle.std.proofs.Common.{◌≡◌, ℕ, ◌+◌, ◌<◌, ◌≤◌, ◌≢◌, ◌⊎◌, List, [], ◌∷◌, ◌++◌, length, take, sym, refl, ap, ◌∙◌, subst, inl, inr, ⊎_elim, append_assoc, append-nil, add-one, arith, length-take-le}
 use mathlib.Core.Option.{Option, none, some}
 use mathlib.Core.List.Memᴰ
 use mathlib.Core.List.{Memᴰ}
-use Rattle.std.proofs.lemmas.Bool.{cases_lt}
 use lib.ListN.{get_elem?}
 use Rattle.std.proofs.lemmas.List.{take_more, take_all, take-append-le, length_push}
 use Rattle.table.specs.Lists.{StandsAt, Lacks}
@@ -14,6 +13,7 @@ use Rattle.finding.specs.Numbered.{Arrow, Firsts, Row, Rows, Numbered, all, targ
 use Rattle.finding.specs.Numbered.Firsts.{nil as f_nil, old as f_old, new as f_new}
 use Rattle.finding.specs.Numbered.Row.{end as r_end, pass as r_pass, go as r_go}
 use Rattle.finding.specs.Numbered.Rows.{end as rs_end, row as rs_row}
+use Rattle.finding.proofs.Laws.{pick, targets_has, all_has, upto_has}
 use Rattle.finding.proofs.Unique.{all_++}
 use Rattle.table.proofs.Lists.{stands_is, stands_left, stands_last, stands_some, stands_past, mem_at, at_mem}
 
@@ -61,9 +61,6 @@ rows_more {es = es} {step} {xs} {i} a {k} {ns} (rs_row {a = b} {bs = bs} {ms = m
 
 -- targets, one more
 
-abbrev pick : {A : Type 0} → Option A → List A → List A
-pick o l = elim o [ none ↦ l | some t ↦ t ∷ l ]
-
 pick_++ : {A : Type 0} (o : Option A) (l m n : List A) → l ≡ m ++ n → pick o l ≡ pick o m ++ n
 pick_++ none l m n e = e
 pick_++ (some t) l m n e = ap (λ k. t ∷ k) e
@@ -77,20 +74,6 @@ targets_none {A} step x a h = rw add-one (targets_++ step (upto x) (x ∷ []) a 
 
 targets_some : {A : Type 0} (step : A → ℕ → Option A) (x : ℕ) (a t : A) → step a x ≡ some t → targets step (upto (x + 1)) a ≡ targets step (upto x) a ++ (t ∷ [])
 targets_some {A} step x a t h = rw add-one (targets_++ step (upto x) (x ∷ []) a ∙ ap (λ (o : Option A). targets step (upto x) a ++ pick o []) h)
-
-target_mem : {A : Type 0} (step : A → ℕ → Option A) (n x : ℕ) (a t : A) → x < n → step a x ≡ some t → Memᴰ t (targets step (upto n) a)
-target_mem step zero x a t h g = absurd (omega arith)
-target_mem {A} step (suc n) x a t h g =
-    subst (Memᴰ t) (sym (targets_++ step (upto n) (n ∷ []) a))
-    (⊎_elim (λ l. Memᴰ.append_left _ (target_mem step n x a t l g))
-    (λ l. let e : x ≡ n = omega arith in
-    Memᴰ.append_right (targets step (upto n) a) (subst (Memᴰ t) (sym (ap (λ (o : Option A). pick o []) (ap (step a) (sym e) ∙ g))) (Memᴰ.head refl)))
-    (cases_lt x n))
-
-all_mem : {A : Type 0} (f : A → List A) (es : List A) (i : ℕ) (a t : A) → StandsAt es i a → Memᴰ t (f a) → Memᴰ t (all f es)
-all_mem f [] i a t s m = absurd cc
-all_mem f (e ∷ es) zero a t s m = let q : a ≡ e = cc in Memᴰ.append_left (all f es) (subst (λ v. Memᴰ t (f v)) q m)
-all_mem f (e ∷ es) (suc i) a t s m = Memᴰ.append_right (f e) (all_mem f es i a t s m)
 
 -- a list that ends in u, parted before e: either e is that u, or the parting stands before it
 pub parts_push : {A : Type 0} (es : List A) (u e : A) (before after : List A) → es ++ (u ∷ []) ≡ before ++ (e ∷ after) → ((es ≡ before) × (u ≡ e)) ⊎ ((rest : List A) × (es ≡ before ++ (e ∷ rest)))
@@ -137,43 +120,97 @@ module _ {A : Type 0} (step : A → ℕ → Option A) (n : ℕ) (start : A) wher
   row_zero es i none = refl
   row_zero es i (some a) = r_end
 
+  -- the row of the entry at hand, with the symbol x looked at
+  row_on : {es : List A} {i : ℕ} {ms : List Arrow} (x : ℕ) (a : A) → StandsAt es i a → Row es (step a) i (upto x ++ (x ∷ [])) ms → RowOf es i (x + 1) ms (get_elem? es i)
+  row_on {es} {i} {ms} x a s r =
+      subst (λ o. RowOf es i (x + 1) ms o) (sym s) (subst (λ l. Row es (step a) i l ms) (let e : upto x ++ (x ∷ []) ≡ upto (x + 1) = rw add-one refl in e) r)
+
+  -- the row of the entry at hand so far
+  row_here : {es : List A} {ms : List Arrow} {i x : ℕ} (a : A) → StandsAt es i a → (k : Known es ms i x) → Row es (step a) i (upto x) k.begun
+  row_here {es} {i = i} {x} a s k = subst (λ o. RowOf es i x k.begun o) s k.row
+
   known_pass : {es : List A} {ms : List Arrow} {i x : ℕ} (a : A) → StandsAt es i a → step a x ≡ none → Known es ms i x → Known es ms i (x + 1)
   known_pass {es} {ms} {i} {x} a s g k =
-      let now : Row es (step a) i (upto x) k.begun = subst (λ (o : Option A). RowOf es i x k.begun o) s k.row in
-      let then : Row es (step a) i (upto (x + 1)) k.begun = subst (λ l. Row es (step a) i l k.begun) (rw add-one refl) (row_pass x now g) in
-      let e : led (get_elem? es i) x ≡ led (get_elem? es i) (x + 1) = ap (λ (o : Option A). led o x) s ∙ sym (targets_none step x a g) ∙ sym (ap (λ (o : Option A). led o (x + 1)) s) in
-      record { in_entries = k.in_entries; done = k.done; begun = k.begun; rows = k.rows; row = subst (λ (o : Option A). RowOf es i (x + 1) k.begun o) (sym s) then; joined = k.joined; firsts = subst (λ l. Firsts [] (start ∷ (all T (take i es) ++ l)) es) e k.firsts; earlier = k.earlier }
+      let e : led (get_elem? es i) x ≡ led (get_elem? es i) (x + 1) =
+      ap (λ (o : Option A). led o x) s ∙ sym (targets_none step x a g) ∙ sym (ap (λ (o : Option A). led o (x + 1)) s) in
+      record {
+        in_entries = k.in_entries;
+        done = k.done;
+        begun = k.begun;
+        rows = k.rows;
+        row = row_on x a s (row_pass x (row_here a s k) g);
+        joined = k.joined;
+        firsts = subst (λ l. Firsts [] (start ∷ (all T (take i es) ++ l)) es) e k.firsts;
+        earlier = k.earlier;
+      }
 
-  grown : (es : List A) (i x : ℕ) (a t : A) → StandsAt es i a → step a x ≡ some t → (start ∷ (all T (take i es) ++ led (get_elem? es i) x)) ++ (t ∷ []) ≡ start ∷ (all T (take i es) ++ led (get_elem? es i) (x + 1))
+  grown : (es : List A) (i x : ℕ) (a t : A) → StandsAt es i a → step a x ≡ some t
+      → (start ∷ (all T (take i es) ++ led (get_elem? es i) x)) ++ (t ∷ []) ≡ start ∷ (all T (take i es) ++ led (get_elem? es i) (x + 1))
   grown es i x a t s g =
-      ap (λ l. start ∷ l) (append_assoc (all T (take i es)) (led (get_elem? es i) x) (t ∷ []) ∙ ap (λ l. all T (take i es) ++ l) (ap (λ (o : Option A). led o x ++ (t ∷ [])) s ∙ sym (targets_some step x a t g) ∙ sym (ap (λ (o : Option A). led o (x + 1)) s)))
+      let e : led (get_elem? es i) x ++ (t ∷ []) ≡ led (get_elem? es i) (x + 1) =
+      ap (λ (o : Option A). led o x ++ (t ∷ [])) s ∙ sym (targets_some step x a t g) ∙ sym (ap (λ (o : Option A). led o (x + 1)) s) in
+      ap (λ l. start ∷ l) (append_assoc (all T (take i es)) (led (get_elem? es i) x) (t ∷ []) ∙ ap (λ l. all T (take i es) ++ l) e)
 
-  known_old : {es : List A} {ms : List Arrow} {i x : ℕ} (a t : A) (j : ℕ) → StandsAt es i a → step a x ≡ some t → StandsAt es j t → Known es ms i x → Known es (ms ++ ((i, x, j) ∷ [])) i (x + 1)
+  known_old : {es : List A} {ms : List Arrow} {i x : ℕ} (a t : A) (j : ℕ) → StandsAt es i a → step a x ≡ some t → StandsAt es j t → Known es ms i x
+      → Known es (ms ++ ((i, x, j) ∷ [])) i (x + 1)
   known_old {es} {ms} {i} {x} a t j s g h k =
-      let now : Row es (step a) i (upto x) k.begun = subst (λ (o : Option A). RowOf es i x k.begun o) s k.row in
-      let then : Row es (step a) i (upto (x + 1)) (k.begun ++ ((i, x, j) ∷ [])) = subst (λ l. Row es (step a) i l (k.begun ++ ((i, x, j) ∷ []))) (rw add-one refl) (row_go x t j now g h) in
-      record { in_entries = k.in_entries; done = k.done; begun = k.begun ++ ((i, x, j) ∷ []); rows = k.rows; row = subst (λ (o : Option A). RowOf es i (x + 1) (k.begun ++ ((i, x, j) ∷ [])) o) (sym s) then; joined = ap (λ l. l ++ ((i, x, j) ∷ [])) k.joined ∙ append_assoc k.done k.begun _; firsts = subst (λ l. Firsts [] l es) (grown es i x a t s g) (firsts_old t k.firsts (mem_at es j t h)); earlier = k.earlier }
+      record {
+        in_entries = k.in_entries;
+        done = k.done;
+        begun = k.begun ++ ((i, x, j) ∷ []);
+        rows = k.rows;
+        row = row_on x a s (row_go x t j (row_here a s k) g h);
+        joined = ap (λ l. l ++ ((i, x, j) ∷ [])) k.joined ∙ append_assoc k.done k.begun _;
+        firsts = subst (λ l. Firsts [] l es) (grown es i x a t s g) (firsts_old t k.firsts (mem_at es j t h));
+        earlier = k.earlier;
+      }
 
-  known_new : {es : List A} {ms : List Arrow} {i x : ℕ} (a t : A) → StandsAt es i a → x < n → step a x ≡ some t → Lacks es t → Known es ms i x → Known (es ++ (t ∷ [])) (ms ++ ((i, x, length es) ∷ [])) i (x + 1)
+  known_new : {es : List A} {ms : List Arrow} {i x : ℕ} (a t : A) → StandsAt es i a → x < n → step a x ≡ some t → Lacks es t → Known es ms i x
+      → Known (es ++ (t ∷ [])) (ms ++ ((i, x, length es) ∷ [])) i (x + 1)
   known_new {es} {ms} {i} {x} a t s b g h k =
-      let es' : List A = es ++ (t ∷ []) in
-      let m : ℕ × ℕ × ℕ = (i, x, length es) in
-      let s' : StandsAt (es ++ (t ∷ [])) i a = stands_left es (t ∷ []) a i s in
-      let same : take i (es ++ (t ∷ [])) ≡ take i es = take-append-le i es (t ∷ []) k.in_entries in
-      let now : Row es (step a) i (upto x) k.begun = subst (λ (o : Option A). RowOf es i x k.begun o) s k.row in
-      let then : Row (es ++ (t ∷ [])) (step a) i (upto (x + 1)) (k.begun ++ ((i, x, length es) ∷ [])) = subst (λ l. Row (es ++ (t ∷ [])) (step a) i l (k.begun ++ ((i, x, length es) ∷ []))) (rw add-one refl) (row_go x t (length es) (row_grows (t ∷ []) now) g (stands_last es [] t)) in
-      let f : Firsts [] (start ∷ (all T (take i es) ++ led (get_elem? es i) (x + 1))) (es ++ (t ∷ [])) = subst (λ l. Firsts [] l (es ++ (t ∷ []))) (grown es i x a t s g) (firsts_new t k.firsts (λ q. let r = at_mem es t q in h r.0 r.1)) in
-      let f' : Firsts [] (start ∷ (all T (take i es) ++ led (get_elem? (es ++ (t ∷ [])) i) (x + 1))) (es ++ (t ∷ [])) = subst (λ (o : Option A). Firsts [] (start ∷ (all T (take i es) ++ led o (x + 1))) (es ++ (t ∷ []))) (s ∙ sym s') f in
-      record { in_entries = omega (arith, length_push es t, k.in_entries); done = k.done; begun = k.begun ++ ((i, x, length es) ∷ []); rows = subst (λ l. Rows (es ++ (t ∷ [])) step (upto n) 0 l k.done) (sym same) (rows_grow (t ∷ []) k.rows); row = subst (λ (o : Option A). RowOf (es ++ (t ∷ [])) i (x + 1) (k.begun ++ ((i, x, length es) ∷ [])) o) (sym s') then; joined = ap (λ l. l ++ ((i, x, length es) ∷ [])) k.joined ∙ append_assoc k.done k.begun _; firsts = subst (λ (l : List A). Firsts [] (start ∷ (all T l ++ led (get_elem? (es ++ (t ∷ [])) i) (x + 1))) (es ++ (t ∷ []))) (sym same) f'; earlier = λ before after e q ne. ⊎_elim (λ p. subst (λ v. Memᴰ v (all T before)) p.1 (subst (λ l. Memᴰ t (all T l)) p.0 (all_mem T es i a t s (target_mem step n x a t b g)))) (λ p. k.earlier before p.0 e p.1 ne) (parts_push es t e before after q) }
+      let more : List A = es ++ (t ∷ []) in
+      let here : StandsAt more i a = stands_left es (t ∷ []) a i s in
+      let same : take i more ≡ take i es = take-append-le i es (t ∷ []) k.in_entries in
+      let first : Firsts [] (start ∷ (all T (take i es) ++ led (get_elem? es i) (x + 1))) more =
+      subst (λ l. Firsts [] l more) (grown es i x a t s g) (firsts_new t k.firsts (λ q. let r = at_mem es t q in h r.0 r.1)) in
+      record {
+        in_entries = omega (arith, length_push es t, k.in_entries);
+        done = k.done;
+        begun = k.begun ++ ((i, x, length es) ∷ []);
+        rows = subst (λ l. Rows more step (upto n) 0 l k.done) (sym same) (rows_grow (t ∷ []) k.rows);
+        row = row_on x a here (row_go x t (length es) (row_grows (t ∷ []) (row_here a s k)) g (stands_last es [] t));
+        joined = ap (λ l. l ++ ((i, x, length es) ∷ [])) k.joined ∙ append_assoc k.done k.begun _;
+        firsts = subst (λ l. Firsts [] (start ∷ (all T l ++ led (get_elem? more i) (x + 1))) more) (sym same)
+            (subst (λ (o : Option A). Firsts [] (start ∷ (all T (take i es) ++ led o (x + 1))) more) (s ∙ sym here) first);
+        earlier = λ before after e q ne.
+            ⊎_elim
+            (λ p. subst (λ v. Memᴰ v (all T before)) p.1 (subst (λ l. Memᴰ t (all T l)) p.0 (all_has T es a t (mem_at es i a s) (targets_has step (upto n) a t x (upto_has n x b) g))))
+            (λ p. k.earlier before p.0 e p.1 ne)
+            (parts_push es t e before after q);
+      }
 
   known_next : {es : List A} {ms : List Arrow} {i : ℕ} → i < length es → Known es ms i n → Known es ms (i + 1) 0
   known_next {es} {ms} {i} h k =
       let (a, s) = stands_some es i h in
-      let now : Row es (step a) i (upto n) k.begun = subst (λ (o : Option A). RowOf es i n k.begun o) s k.row in
-      let more' : take i es ++ (a ∷ []) ≡ take (i + 1) es = ap (λ v. take i es ++ (v ∷ [])) (sym (stands_is es i a a s)) ∙ sym (take_more es i a h) in
-      let e : all T (take i es) ++ led (get_elem? es i) n ≡ all T (take (i + 1) es) ++ led (get_elem? es (i + 1)) 0 = ap (λ l. all T (take i es) ++ l) (ap (λ (o : Option A). led o n) s ∙ sym (append-nil (T a))) ∙ sym (all_++ T (take i es) (a ∷ [])) ∙ ap (all T) more' ∙ sym (append-nil (all T (take (i + 1) es))) ∙ ap (λ l. all T (take (i + 1) es) ++ l) (sym (led_zero (get_elem? es (i + 1)))) in
-      let r : Rows es step (upto n) 0 (take i es ++ (a ∷ [])) (k.done ++ k.begun) = rows_more a k.rows (let z : 0 + length (take i es) ≡ i = omega (arith, length-take-le i es k.in_entries) in z) now in
-      record { in_entries = omega arith; done = k.done ++ k.begun; begun = []; rows = subst (λ l. Rows es step (upto n) 0 l (k.done ++ k.begun)) more' r; row = row_zero es (i + 1) (get_elem? es (i + 1)); joined = k.joined ∙ sym (append-nil (k.done ++ k.begun)); firsts = subst (λ l. Firsts [] (start ∷ l) es) e k.firsts; earlier = k.earlier }
+      let longer : take i es ++ (a ∷ []) ≡ take (i + 1) es = ap (λ v. take i es ++ (v ∷ [])) (sym (stands_is es i a a s)) ∙ sym (take_more es i a h) in
+      let e : all T (take i es) ++ led (get_elem? es i) n ≡ all T (take (i + 1) es) ++ led (get_elem? es (i + 1)) 0 =
+      ap (λ l. all T (take i es) ++ l) (ap (λ (o : Option A). led o n) s ∙ sym (append-nil (T a)))
+      ∙ sym (all_++ T (take i es) (a ∷ []))
+      ∙ ap (all T) longer
+      ∙ sym (append-nil (all T (take (i + 1) es)))
+      ∙ ap (λ l. all T (take (i + 1) es) ++ l) (sym (led_zero (get_elem? es (i + 1)))) in
+      let r : Rows es step (upto n) 0 (take i es ++ (a ∷ [])) (k.done ++ k.begun) =
+      rows_more a k.rows (let z : 0 + length (take i es) ≡ i = omega (arith, length-take-le i es k.in_entries) in z) (row_here a s k) in
+      record {
+        in_entries = omega arith;
+        done = k.done ++ k.begun;
+        begun = [];
+        rows = subst (λ l. Rows es step (upto n) 0 l (k.done ++ k.begun)) longer r;
+        row = row_zero es (i + 1) (get_elem? es (i + 1));
+        joined = k.joined ∙ sym (append-nil (k.done ++ k.begun));
+        firsts = subst (λ l. Firsts [] (start ∷ l) es) e k.firsts;
+        earlier = k.earlier;
+      }
 
   known_start : Known (start ∷ []) [] 0 0
   known_start =
@@ -204,7 +241,9 @@ module _ {A : Type 0} {w : Bounded A} (start : A) where
       let all_of : take (length es) es ≡ es = take_all (length es) es (omega arith) in
       let none_left : k.begun ≡ [] = subst (λ (o : Option A). RowOf w.sought.step w.sought.symbols start es (length es) 0 k.begun o) (stands_past es) k.row in
       let done-is : k.done ≡ ms = sym (append-nil k.done) ∙ ap (λ l. k.done ++ l) (sym none_left) ∙ sym k.joined in
-      let e : all (targets w.sought.step (upto w.sought.symbols)) (take (length es) es) ++ led w.sought.step w.sought.symbols start (get_elem? es (length es)) 0 ≡ all (targets w.sought.step (upto w.sought.symbols)) es = ap (λ l. all (targets w.sought.step (upto w.sought.symbols)) (take (length es) es) ++ l) (led_zero w.sought.step w.sought.symbols start (get_elem? es (length es))) ∙ append-nil _ ∙ ap (all (targets w.sought.step (upto w.sought.symbols))) all_of in
+      let aims = targets w.sought.step (upto w.sought.symbols) in
+      let e : all aims (take (length es) es) ++ led w.sought.step w.sought.symbols start (get_elem? es (length es)) 0 ≡ all aims es =
+      ap (λ l. all aims (take (length es) es) ++ l) (led_zero w.sought.step w.sought.symbols start (get_elem? es (length es))) ∙ append-nil _ ∙ ap (all aims) all_of in
       record {
         found = record { in_order = subst (λ l. Firsts [] (start ∷ l) es) e k.firsts; earlier = k.earlier };
         rows = subst (λ l. Rows es w.sought.step (upto w.sought.symbols) 0 es l) done-is (subst (λ (l : List A). Rows es w.sought.step (upto w.sought.symbols) 0 l k.done) all_of k.rows);

@@ -44,7 +44,7 @@ found_distinct {es = es} f = apart_distinct es (λ e before after q m. firsts_un
 
 -- ---- where an entry leads
 
-abbrev pick : {A : Type 0} → Option A → List A → List A
+abbrev pub pick : {A : Type 0} → Option A → List A → List A
 pick o l = elim o [ none ↦ l | some t ↦ t ∷ l ]
 
 pick_cases : {A : Type 0} (o : Option A) (l : List A) (t : A) → Memᴰ t (pick o l) → (o ≡ some t) ⊎ Memᴰ t l
@@ -65,7 +65,7 @@ module _ {A : Type 0} (step : A → ℕ → Option A) where
   targets_only (x ∷ xs) a t m =
       ⊎_elim (λ e. (x, Memᴰ.head refl, e)) (λ k. let (y, i, e) = targets_only xs a t k in (y, Memᴰ.tail i, e)) (pick_cases (step a x) (targets step xs a) t m)
 
-  targets_has : (xs : List ℕ) (a t : A) (x : ℕ) → Memᴰ x xs → step a x ≡ some t → Memᴰ t (targets step xs a)
+  pub targets_has : (xs : List ℕ) (a t : A) (x : ℕ) → Memᴰ x xs → step a x ≡ some t → Memᴰ t (targets step xs a)
   targets_has [] a t x m e = absurd (Memᴰ.not-nil m)
   targets_has (y ∷ xs) a t x m e =
       ⊎_elim (λ q. pick_some (step a y) (targets step xs a) t (ap (step a) (sym q) ∙ e)) (λ k. pick_rest (step a y) (targets step xs a) t (targets_has xs a t x k e)) (Memᴰ.cases_cons m)
@@ -75,7 +75,7 @@ all_only f [] t m = absurd (Memᴰ.not-nil m)
 all_only f (e ∷ es) t m =
     ⊎_elim (λ k. (e, Memᴰ.head refl, k)) (λ k. let (a, i, l) = all_only f es t k in (a, Memᴰ.tail i, l)) (Memᴰ.append_cases (f e) m)
 
-all_has : {A B : Type 0} (f : A → List B) (es : List A) (a : A) (t : B) → Memᴰ a es → Memᴰ t (f a) → Memᴰ t (all f es)
+pub all_has : {A B : Type 0} (f : A → List B) (es : List A) (a : A) (t : B) → Memᴰ a es → Memᴰ t (f a) → Memᴰ t (all f es)
 all_has f [] a t m k = absurd (Memᴰ.not-nil m)
 all_has f (e ∷ es) a t m k =
     ⊎_elim (λ q. Memᴰ.append_left (all f es) (subst (λ v. Memᴰ t (f v)) q k)) (λ n. Memᴰ.append_right (f e) (all_has f es a t n k)) (Memᴰ.cases_cons m)
@@ -213,7 +213,7 @@ module _ {A : Type 0} {step : A → ℕ → Option A} {symbols : List ℕ} {star
       let (x, i, g) = targets_only step symbols a e t in
       let (j, p) = at_mem before a m in
       let (xs, w) = entry_along bound j (let b = stands_below before j a p in omega arith) a (subst (λ r. StandsAt r j a) (sym q) (stands_left before (e ∷ after) a j p)) in
-      (xs ++ (x ∷ []), on w i g)
+      (xs ++ (x ∷ []), on {xs = xs} w i g)
 
   pub numbered_laws : Ascending symbols → Laws step symbols start es ms
   numbered_laws o =

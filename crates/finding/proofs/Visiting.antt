@@ -1,14 +1,15 @@
 -- The turns of a visit: symbols passed over, a move, a stop, and the next entry.
 use Rattle.std.proofs.Common.{◌≡◌, ℕ, zero, suc, ◌+◌, ◌-◌, ◌<◌, ◌≤◌, List, map, length, take, Some, None, sym, refl, ap, ◌∙◌, subst, arith}
+use Rattle.finding.specs.declared.moves.Count.{Count}
 use Rattle.finding.specs.declared.moves.Stop.{Stop}
 use Rattle.finding.specs.declared.moves.Move.{Move}
 use Rattle.table.specs.Lists.{StandsAt}
 use Rattle.finding.specs.Numbered.{Arrow}
-use Rattle.finding.specs.Finding.{Search, Bounded, Place, within, stands, place, arrow, Turn, Turns, Stopped, TurnedTo}
+use Rattle.finding.specs.Finding.{Search, Bounded, Place, within, stands, place, Turn, Turns, Stopped, TurnedTo}
 use Rattle.finding.specs.Finding.Turn.{pass, next}
 use Rattle.finding.specs.Finding.Turns.{stay, more}
-use Rattle.finding.specs.Spaces.{LeastMove, Rests}
-use Rattle.table.proofs.Lists.{stands_map, stands_below}
+use Rattle.finding.specs.Spaces.{Moves, LeastMove, Rests}
+use Rattle.table.proofs.Lists.{stands_map, stands_below, stands_same}
 
 pub same_bounds : {S A : Type 0} (f : S → Search A) {s s' : S} {a a' b b' : ℕ} → s ≡ s' → a ≡ a' → b ≡ b' → within (f s) a b ≡ within (f s') a' b'
 same_bounds f {s} {s'} {a} {a'} {b} {b'} p q r =
@@ -30,22 +31,39 @@ pub joins : {A : Type 0} {w : Bounded A} {p q r : Place A} → Turns w p q → T
 joins f stay = f
 joins f (more g t) = more (joins f g) t
 
-module _ {E A N : Type 0} (r : Search A) (f : E → A) (v : N → ℕ) (rows : List E) (n : ℕ) (moves : List (Move N)) (m i x : ℕ) (e : E) (w₀ : Bounded A) (p₀ : Place A) (same : within r (length rows) (length moves) ≡ w₀) (at : StandsAt (take n rows) i e) (in-symbols : x ≤ r.symbols) (turns : Turns w₀ p₀ (stands f v rows n moves m i x)) where
+-- in a visit of entry i, which is e: turns led from p₀ to here, within these bounds, and x is the symbol to look at
+pub record AtVisit {E A N : Type 0} (s : Search A) (f : E → A) (v : N → ℕ) (rows : List E) (moves : List (Move N)) (found : Count) (i x : ℕ)
+    (e : E) (w₀ : Bounded A) (p₀ : Place A) : Type 1 where
+  pub here : StandsAt (take found.entries rows) i e
+  pub in_symbols : x ≤ s.symbols
+  pub bounds : within s (length rows) (length moves) ≡ w₀
+  pub turns : Turns w₀ p₀ (stands f v rows found.entries moves found.moves i x)
+
+module _ {E A N : Type 0} {s : Search A} {f : E → A} {v : N → ℕ} {rows : List E} {moves : List (Move N)} {found : Count} {i x : ℕ}
+    {e : E} {w₀ : Bounded A} {p₀ : Place A} (at : AtVisit s f v rows moves found i x e w₀ p₀) where
   abbrev W : Bounded A
-  W = within r (length rows) (length moves)
+  W = within s (length rows) (length moves)
 
-  to_there : {y : ℕ} → x ≤ y → y ≤ r.symbols → Rests r (f e) x y → Turns W p₀ (stands f v rows n moves m i y)
-  to_there {y} l h rests =
-      joins (subst (λ (w : Bounded A). Turns w p₀ (stands f v rows n moves m i x)) (sym same) turns) (passes W (map f (take n rows)) (map (arrow v) (take m moves)) i (f e) (stands_map f (take n rows) i e at) x y l h rests)
+  abbrev At : ℕ → Place A
+  At y = stands f v rows found.entries moves found.moves i y
 
-  pub on : {y : ℕ} → LeastMove r (f e) x (Some y) → {q : Place A} → Turn W (stands f v rows n moves m i y) q → Turns w₀ p₀ q
-  on h {q} t = subst (λ (w : Bounded A). Turns w p₀ q) same (more (to_there h.0 (omega (arith, h.3.0)) h.2) t)
+  here : StandsAt (map f (take found.entries rows)) i (f e)
+  here = stands_map f (take found.entries rows) i e at.here
 
-  pub stops : {y : ℕ} → LeastMove r (f e) x (Some y) → {s : Stop} → Stopped W (stands f v rows n moves m i y) s → TurnedTo w₀ p₀ s
-  stops {y} h {s} t =
-      subst (λ (w : Bounded A). TurnedTo w p₀ s) same (stands f v rows n moves m i y, to_there h.0 (omega (arith, h.3.0)) h.2, t)
+  -- an entry that stands there is e, and moves as e does
+  pub moves_there : {y : ℕ} → Moves s (f e) y → (a : E) → StandsAt (take found.entries rows) i a → Moves s (f a) y
+  moves_there {y} h a st = subst (λ b. Moves s (f b) y) (stands_same (take found.entries rows) i e a at.here st) h
 
-  pub over : LeastMove r (f e) x None → Turns w₀ p₀ (stands f v rows n moves m (i + 1) 0)
+  to_there : {y : ℕ} → x ≤ y → y ≤ s.symbols → Rests s (f e) x y → Turns W p₀ (At y)
+  to_there {y} l h rests = joins (subst (λ w. Turns w p₀ (At x)) (sym at.bounds) at.turns) (passes W (At x).entries (At x).moves i (f e) here x y l h rests)
+
+  pub on : {y : ℕ} → LeastMove s (f e) x (Some y) → {q : Place A} → Turn W (At y) q → Turns w₀ p₀ q
+  on h {q} t = subst (λ w. Turns w p₀ q) at.bounds (more (to_there h.0 (omega (arith, h.3.0)) h.2) t)
+
+  pub stops : {y : ℕ} → LeastMove s (f e) x (Some y) → {stop : Stop} → Stopped W (At y) stop → TurnedTo w₀ p₀ stop
+  stops {y} h {stop} t = subst (λ w. TurnedTo w p₀ stop) at.bounds (At y, to_there h.0 (omega (arith, h.3.0)) h.2, t)
+
+  pub over : LeastMove s (f e) x None → Turns w₀ p₀ (stands f v rows found.entries moves found.moves (i + 1) 0)
   over h =
-      let b : i < length (map f (take n rows)) = stands_below (map f (take n rows)) i (f e) (stands_map f (take n rows) i e at) in
-      subst (λ (w : Bounded A). Turns w p₀ (stands f v rows n moves m (i + 1) 0)) same (more (to_there in-symbols (omega arith) h) (next b refl))
+      let b : i < length (map f (take found.entries rows)) = stands_below _ i (f e) here in
+      subst (λ w. Turns w p₀ (stands f v rows found.entries moves found.moves (i + 1) 0)) at.bounds (more (to_there at.in_symbols (omega arith) h) (next b refl))

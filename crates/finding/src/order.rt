@@ -1,6 +1,6 @@
 //! The search in finding order.
 ghost use Rattle.std.specs.Prelude.{◌≡◌, ℕ, ◌+◌, ◌<◌, ◌≤◌, min, List, [], ◌∷◌, length, take, IfOk, MatchResult};
-ghost use Rattle.table.specs.Lists.{Exact, StandsAt};
+ghost use Rattle.table.specs.Lists.{StandsAt};
 ghost use Rattle.finding.specs.Finding.{within, stands, Turn, Turns, Stopped, TurnedTo};
 ghost use Rattle.finding.specs.Spaces.{Moves, Held, Answered};
 
@@ -9,8 +9,8 @@ use crate::space::Space;
 use table::entries::Table;
 use table::numbers::Number;
 
-// Space, tables and count are passed one by one: methods of a struct with the three references would have to promise, beside all that stands here, that each
-// reference is kept and each table keeps its length, which parameters show by themselves.
+// Space, tables and count are passed one by one, and each function asks that the rows are few. Tried in part: methods of a struct with the three references would
+// have to promise, beside all that stands here, that each reference is kept and each table keeps its length, which parameters show by themselves.
 
 /// Takes the move of entry `i` on the symbol `x`.
 fn take_move<S: Space, N: Number>(
@@ -21,7 +21,6 @@ fn take_move<S: Space, N: Number>(
     i: usize,
     x: u16,
 ) -> Result<Count, Stop>
-    requires exact { Exact (λ x' y' r'. r' ≡ S.Entry.PartialEq.eq x' y') }
     requires held { Held (S.Space.ready space.old) rows.old moves.old found }
     requires short { length rows.old ≤ 65536 }
     requires here { i < found.entries }
@@ -67,7 +66,6 @@ fn visit<S: Space, N: Number>(
     mut found: Count,
     i: usize,
 ) -> Result<Count, Stop>
-    requires exact { Exact (λ x' y' r'. r' ≡ S.Entry.PartialEq.eq x' y') }
     requires held { Held (S.Space.ready space.old) rows.old moves.old found }
     requires short { length rows.old ≤ 65536 }
     requires here { i < found.entries }
@@ -97,7 +95,6 @@ fn number_all<S: Space, N: Number>(
     rows: &mut [S::Entry],
     moves: &mut [Move<N>],
 ) -> Result<Count, Stop>
-    requires exact { Exact (λ x' y' r'. r' ≡ S.Entry.PartialEq.eq x' y') }
     requires ready { S.Space.ready space.old (start ∷ []) }
     requires short { length rows.old ≤ 65536 }
     ensures source { S.Space.source space.new ≡ S.Space.source space.old }
@@ -130,7 +127,6 @@ pub fn number<S: Space, N: Number>(
     moves: &mut [Move<N>],
     limits: Limits,
 ) -> Result<Count, Stop>
-    requires exact { Exact (λ x' y' r'. r' ≡ S.Entry.PartialEq.eq x' y') }
     requires ready { S.Space.ready space.old (start ∷ []) }
     requires short { limits.entries ≤ 65536 }
     ensures source { S.Space.source space.new ≡ S.Space.source space.old }

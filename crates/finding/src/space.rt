@@ -1,7 +1,7 @@
 //! What is searched: entries, and where each leads.
 ghost use Rattle.std.specs.Prelude.{◌≡◌, ℕ, List};
 ghost use Rattle.std.proofs.Math.Option.{some};
-ghost use Rattle.table.specs.Lists.{StandsAt};
+ghost use Rattle.table.specs.Lists.{Exact, StandsAt};
 ghost use Rattle.finding.specs.Finding.{Search};
 ghost use Rattle.finding.specs.Spaces.{Moves, LeastMove, Reached};
 
@@ -36,4 +36,7 @@ pub trait Space {
         requires moves { Moves (sought (source self.old)) (thing self.old e) x }
         ensures source { source self.new ≡ source self.old }
         ensures answer { (es : List Self.Entry) (k : ℕ) (t : Thing) → ready self.old es → StandsAt es k e → (sought (source self.old)).step (thing self.old e) x ≡ some t → Reached (thing self.old) (thing self.new) (ready self.new) (sought (source self.old)).room es t result };
+
+    /// the equality of entries is exact
+    ghost exact: { Exact (λ x' y' r'. r' ≡ Self.Entry.PartialEq.eq x' y') };
 }

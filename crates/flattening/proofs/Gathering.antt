@@ -2,7 +2,7 @@
 use Rattle.std.proofs.Common.{◌≡◌, ℕ, ◌+◌, ◌-◌, ◌<◌, ◌≤◌, ◌⊎◌, List, [], ◌∷◌, ◌++◌, length, get_or, take, sym, refl, ap, ◌∙◌, subst, inl, inr, ⊎_elim, arith}
 use mathlib.Core.List.Memᴰ
 use mathlib.Core.List.{Memᴰ}
-use Rattle.std.proofs.lemmas.List.{take_all, take-map, map_more, length-map}
+use Rattle.std.proofs.lemmas.List.{take-map, map_more}
 use Rattle.table.specs.declared.numbers.NodeNo.{NodeNo}
 use Rattle.table.proofs.Lists.{mem_at, stands_map, stands_getD}
 use Rattle.finding.specs.declared.moves.Move.{Move}
@@ -76,9 +76,6 @@ module _ (items : Items) (moves : List Arrow) where
             );
           }
 
-pub gather_none : (items : Items) (moves : List Arrow) {t : JumpTable} → Keeps [] t → PutMore [] (Given items moves []) t
-gather_none items moves k = record { jumps = []; keeps = k; are = λ j. (inl, (λ h. ⊎_elim (λ i. i) (λ g. absurd (Memᴰ.not-nil g.among)) h)) }
-
 -- the moves one by one
 
 -- what is read past the end
@@ -92,6 +89,3 @@ module _ (moves : List (Move NodeNo)) (i : ℕ) (d : Move NodeNo) where
 
   pub arrow_among : i < length moves → Memᴰ (plain (get_or moves i d)) (arrows moves)
   arrow_among h = mem_at (arrows moves) i (plain (get_or moves i d)) (stands_map plain moves i (get_or moves i d) (stands_getD moves i d h))
-
-pub arrows_all : (moves : List (Move NodeNo)) (i : ℕ) → length moves ≤ i → take i (arrows moves) ≡ arrows moves
-arrows_all moves i h = take_all i (arrows moves) (omega (arith, length-map moves plain))

@@ -14,8 +14,8 @@ use Rattle.table.proofs.Orders.{in_order_none, in_order_cons, in_order_tail, in_
 -- ── at a place ──
 
 pub stands_take : {A : Type 0} (n : ℕ) (xs : List A) (k : ℕ) (t : A) → StandsAt (take n xs) k t → StandsAt xs k t × (k < n)
-stands_take zero xs k t s = let z : ◌≡◌ {A = ℕ} 0 1 = cc in absurd (omega arith)
-stands_take (suc n) [] k t s = let z : ◌≡◌ {A = ℕ} 0 1 = cc in absurd (omega arith)
+stands_take zero xs k t s = absurd cc
+stands_take (suc n) [] k t s = absurd cc
 stands_take (suc n) (x ∷ xs) zero t s = (s, omega arith)
 stands_take (suc n) (x ∷ xs) (suc k) t s = let (r, h) = stands_take n xs k t s in (r, omega arith)
 
@@ -26,8 +26,8 @@ take_stands (suc n) (x ∷ xs) zero t s h = s
 take_stands (suc n) (x ∷ xs) (suc k) t s h = take_stands n xs k t s (omega arith)
 
 pub drop_head : {A : Type 0} (xs : List A) (i : ℕ) (x : A) (rest : List A) → drop i xs ≡ x ∷ rest → StandsAt xs i x
-drop_head [] zero x rest e = let z : ◌≡◌ {A = ℕ} 0 1 = cc in absurd (omega arith)
-drop_head [] (suc i) x rest e = let z : ◌≡◌ {A = ℕ} 0 1 = cc in absurd (omega arith)
+drop_head [] zero x rest e = absurd cc
+drop_head [] (suc i) x rest e = absurd cc
 drop_head (y ∷ xs) zero x rest e = let q : y ≡ x = cc in ap some q
 drop_head (y ∷ xs) (suc i) x rest e = drop_head xs i x rest e
 
@@ -40,7 +40,7 @@ take_inserted (y ∷ xs) (suc i) (suc k) x h = ap (λ l. y ∷ l) (take_inserted
 pub stands_inserted : {A : Type 0} (xs : List A) (i k : ℕ) (x t : A) → i ≤ k → StandsAt xs k t → StandsAt (insert xs i x) (suc k) t
 stands_inserted xs zero k x t h s = s
 stands_inserted xs (suc i) zero x t h s = absurd (omega arith)
-stands_inserted [] (suc i) (suc k) x t h s = let z : ◌≡◌ {A = ℕ} 0 1 = cc in absurd (omega arith)
+stands_inserted [] (suc i) (suc k) x t h s = absurd cc
 stands_inserted (y ∷ xs) (suc i) (suc k) x t h s = stands_inserted xs i k x t (omega arith) s
 
 -- rows that were shifted up from a place, and the new row there
@@ -157,10 +157,10 @@ begins all k (Some b) h = (drop (k + 1) all, drop_more all k b (stands_below all
 module _ {A : Type 0} (R : A → A → Type 0) (apart : (x y : A) → R x y → R y x → ⊥) where
   put_begins : {j : A} {back ys : List A} → Put R j back ys → (o p : Option A) → Begins back o → Sooner R o j p → (h : A) × (rest : List A) × (ys ≡ h ∷ rest) × (p ≡ Some h)
   put_begins {j} end None p b s = (j, [], refl, s)
-  put_begins end (Some c) p b s = let e = b.1 in let z : ◌≡◌ {A = ℕ} 0 1 = cc in absurd (omega arith)
-  put_begins (here h) None p b s = let z : ◌≡◌ {A = ℕ} 0 1 = cc in absurd (omega arith)
-  put_begins (held h) None p b s = let z : ◌≡◌ {A = ℕ} 0 1 = cc in absurd (omega arith)
-  put_begins (later h q) None p b s = let z : ◌≡◌ {A = ℕ} 0 1 = cc in absurd (omega arith)
+  put_begins end (Some c) p b s = let e = b.1 in absurd cc
+  put_begins (here h) None p b s = absurd cc
+  put_begins (held h) None p b s = absurd cc
+  put_begins (later h q) None p b s = absurd cc
   put_begins {j} (here {x = x} {xs = xs} h) (Some c) p b s =
       let e = b.1 in let q : c ≡ x = cc in
       ⊎_elim (λ l. (j, x ∷ xs, refl, l.1)) (λ n. absurd (n.0 (subst (R j) (sym q) h))) s

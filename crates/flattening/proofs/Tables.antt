@@ -13,7 +13,6 @@ use Rattle.std.specs.declared.cmp.Ordering.{Ordering}
 use Rattle.std.specs.declared.cmp.Ordering.TheVariants.{Less, Equal, Greater}
 use Rattle.table.specs.Lists.{StandsAt, Lacks, InOrder}
 use Rattle.table.proofs.Lists.{mem_at, at_mem, stands_below, stands_getD, stands_is}
-use Rattle.table.proofs.Orders.{in_order_none}
 use Rattle.flattening.specs.declared.jump.Jump.{Jump}
 use Rattle.flattening.specs.declared.kept.JumpTable.{JumpTable}
 use Rattle.flattening.specs.Orders.{Before}
@@ -115,18 +114,6 @@ module _ (rows : List Jump) (j : Jump) (rising : InOrder Before rows) where
         record { within = b; front = low; rest = λ k t h s c. before_apart t j c (high k t h s) },
         (λ k s. let own : Before j j → ⊥ = λ c. before_apart j j c c in ⊎_elim (λ h. own (low k j h s)) (λ h. own (high k j h s)) (cases_lt k i)),
       )
-
--- ── nothing found ──
-
-pub keeps_none : (t : JumpTable) → t.len ≡ 0 → t.beyond ≡ None → Keeps [] t
-keeps_none t e b =
-    record {
-      all = [];
-      rising = in_order_none Before;
-      are = λ j. ((λ m. m), (λ m. m));
-      rows_are = ap (λ n. take n t.rows.now) e ∙ sym (take_all t.limit [] (omega arith));
-      next = subst (At [] t.limit) (sym b) (omega arith);
-    }
 
 -- ── a jump more ──
 

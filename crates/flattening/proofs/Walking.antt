@@ -14,10 +14,6 @@ use Rattle.flattening.specs.Places.{MoveOn}
 use Rattle.flattening.specs.Walks.{Spells}
 use Rattle.flattening.specs.Walks.Spells.{end, more}
 
-pub spells_below : {after : List ℕ} {k : ℕ} {xs : List ℕ} → Spells after k xs → k < 4096
-spells_below (end b e) = b
-spells_below (more b e s r) = b
-
 -- one list is spelled from a number on
 pub spells_one : {after : List ℕ} {k : ℕ} {xs ys : List ℕ} → Spells after k xs → Spells after k ys → xs ≡ ys
 spells_one (end b e) (end c f) = refl

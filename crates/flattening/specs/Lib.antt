@@ -1,5 +1,4 @@
 pub mod Places
-pub mod Rising
 pub mod Orders
 pub mod Keeping
 pub mod Walks

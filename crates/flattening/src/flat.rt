@@ -10,6 +10,7 @@ use crate::jump::Jump;
 use crate::kept::JumpTable;
 use crate::lookup::find_move;
 use crate::unfolded::Unfolded;
+use finding::lookup::Rising;
 use finding::moves::Move;
 use table::numbers::NodeNo;
 
@@ -35,7 +36,8 @@ impl<'a> Unfolded<'a> {
         ensures { (u : Unfolding self.now.items.now (arrows self.now.moves.now)) → FinalNode u.states u.nodes result.0 }
     {
         // There is a move: node 0 always moves on the start name.
-        find_move(self.moves, NodeNo(0), self.items.after[0]).unwrap()
+        let rising = Rising { moves: self.moves };
+        find_move(&rising, NodeNo(0), self.items.after[0]).unwrap()
     }
 
     /// Writes the jumps into the rows, in their order; how many there are, or the fault where there are more than may be.

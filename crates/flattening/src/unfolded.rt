@@ -2,7 +2,7 @@
 ghost use Rattle.table.specs.Lists.{InOrder};
 ghost use Rattle.finding.specs.Laws.{Rises};
 ghost use Rattle.flattening.specs.Walks.{arrows};
-ghost use Rattle.flattening.specs.Rising.{rising_one};
+ghost use Rattle.finding.specs.Rising.{rising_one};
 
 use finding::moves::Move;
 use machine::items::Items;

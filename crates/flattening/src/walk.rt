@@ -8,6 +8,7 @@ use crate::jump::Jump;
 use crate::kept::JumpTable;
 use crate::lookup::find_move;
 use crate::unfolded::Unfolded;
+use finding::lookup::Rising;
 use finding::moves::Move;
 use machine::items::NO_SYMBOL;
 use table::numbers::{NodeNo, Number};
@@ -34,10 +35,11 @@ impl<'a> Unfolded<'a> {
         ensures ends { Ends self.now.items.now.after (arrows self.now.moves.now) from.0 first result.0 }
         ensures one { (p : ℕ) → Ends self.now.items.now.after (arrows self.now.moves.now) from.0 first p → p ≡ result.0 }
     {
+        let rising = Rising { moves: self.moves };
         let mut at = from;
         for symbol in self.side(first) {
             // There is a move, since the way over the whole right side is known to end.
-            at = find_move(self.moves, at, *symbol).unwrap();
+            at = find_move(&rising, at, *symbol).unwrap();
         }
         at
     }

@@ -31,7 +31,7 @@ use Rattle.machine.specs.Closing.{ItemsOf, KernelOf}
 use Rattle.machine.specs.Reading.{machine_search, item_search, Readied}
 use Rattle.machine.specs.Machines.{refusal, sets, arrows, limits, MachineRefusal, MachineIn, FoundFinal, fault_of}
 use Rattle.machine.specs.Machines.MachineRefusal.{state_limit, move_limit}
-use Rattle.machine.proofs.Gotos.{grammar_read, closed_kernel}
+use Rattle.machine.proofs.Gotos.{grammar_read, closed_kernel, thing}
 
 pub items_of : {t : List ℕ} {s : Summary} (k : Known t s) (items : Items) → items.words ≡ s.words
     → ((g : Grammar) → Holds t g → Indexed g items.after items.head items.next) → ItemsOf k.grammar items
@@ -44,9 +44,6 @@ ready_start {t} g items start h of e =
     one : (k : ℕ) (s : NumberSet ItemNo) → StandsAt (start ∷ []) k s → KernelOf g s.words
     one zero s at = let q : start ≡ s = cc in subst (λ (z : NumberSet ItemNo). KernelOf g z.words) q (closed_kernel g (0 ∷ []) start.words start.row e)
     one (suc k) s at = absurd (cc)
-
-abbrev thing : NumberSet ItemNo → List ℕ
-thing e = members e.words
 
 abbrev plain_number : StateNo → ℕ
 plain_number s = s.0
@@ -91,7 +88,7 @@ module _ {t : List ℕ} {room moves-room : ℕ} {rows : List (NumberSet ItemNo)}
     laws : MachineLaws g (sets c.entries rows) (arrows c.moves moves)
     laws = machine_laws g (fit_sound g s.held.fit) is_machine
 
-    pub counts : (c.entries ≤ min room 1024) × (c.moves ≤ min moves-room 16384)
+    counts : (c.entries ≤ min room 1024) × (c.moves ≤ min moves-room 16384)
     unfolding limits
     counts = (
       omega (arith, s.answer.fits.few, length-map (take c.entries rows) thing, length-take-le c.entries rows n-in),

@@ -16,12 +16,12 @@ use Rattle.finding.specs.Spaces.{LeastMove, Reached}
 use Rattle.finding.proofs.Plain.{plain}
 use Rattle.theory.specs.Items.{item_count, Dotted}
 use Rattle.theory.specs.Closure.{closure, goto, Carried}
-use Rattle.theory.proofs.Items.{dotted_below, below_dotted, dotted_next, after_known, fit_sound}
+use Rattle.theory.proofs.Items.{dotted_below, dotted_next, after_known, fit_sound}
 use Rattle.theory.proofs.Closure.{closure_members, goto_carried, goto_none, goto_is, goto_only}
 use Rattle.machine.specs.declared.items.Items.{Items}
 use Rattle.machine.specs.Closing.{ItemsOf, KernelOf}
 use Rattle.machine.specs.Reading.{grammar_of, machine_search, item_search, Readied, LeastAfter, CarriedOver}
-use Rattle.machine.proofs.Indexing.{follower_at}
+use Rattle.machine.proofs.Indexing.{after_symbol, has_after}
 use Rattle.machine.proofs.Taking.{closed_below}
 
 -- a table's grammar is read off it
@@ -33,25 +33,6 @@ grammar_read {t} {g} h =
 -- the symbol after a dot
 
 module _ (g : Grammar) (items : Items) (of : ItemsOf g items) where
-  pub after_symbol : (k a x : ℕ) (l r : List ℕ) → Dotted g k a l (x ∷ r) → get_or items.after k 0 ≡ x
-  after_symbol k a x l r d = follower_at of.indexed k a l (x ∷ r) d
-
-  record Has (k x : ℕ) : Type 0 where
-    left : ℕ
-    before : List ℕ
-    after : List ℕ
-    item : Dotted g k left before (x ∷ after)
-
-  has_after : (k x : ℕ) → k < item_count g → get_or items.after k 0 ≡ x → x < 65535 → Has k x
-  has_after k x b e s =
-      let (a, l, r, d) = below_dotted g k b in with_item a l r d
-    where
-      with_item : (a : ℕ) (l r : List ℕ) → Dotted g k a l r → Has k x
-      with_item a l [] d = absurd (let f = follower_at of.indexed k a l [] d in omega arith)
-      with_item a l (y ∷ r) d =
-          let f : y ≡ x = sym (after_symbol k a y l r d) ∙ e in
-          record { left = a; before = l; after = r; item = subst (λ z. Dotted g k a l (z ∷ r)) f d }
-
   symbol_small : (k a x : ℕ) (l r : List ℕ) → Dotted g k a l (x ∷ r) → (x < symbols g) × (x < 65535)
   symbol_small k a x l r d =
       let u = after_known g (fit_sound g of.fit) k d in let w = of.fit.words.1 in let n = of.fit.names.1 in (u, omega arith)
@@ -59,14 +40,14 @@ module _ (g : Grammar) (items : Items) (of : ItemsOf g items) where
   module _ (set : List ℕ) (row : Row set) (in-items : KernelOf g set) where
     carried_item : (k x : ℕ) → In set k → get_or items.after k 0 ≡ x → x < 65535 → Carried g (members set) x (suc k)
     carried_item k x i e s =
-        let h = has_after k x (in-items k i) e s in
+        let h = has_after of.indexed k x (in-items k i) e s in
         record { from = k; member = in_members set row k i; left = h.left; before = h.before; after = h.after; item = h.item; number = refl }
 
     no_step : (from x : ℕ) → from ≤ x → ((k : ℕ) → In set k → from ≤ get_or items.after k 0 → get_or items.after k 0 < 65535 → get_or items.after k 0 ≡ x → ⊥)
         → goto g (members set) x ≡ none
     no_step from x f off =
         goto_none g (members set) x (λ j c.
-        let e = after_symbol c.from c.left x c.before c.after c.item in
+        let e = after_symbol of.indexed c.from c.left x c.before c.after c.item in
         let s = symbol_small c.from c.left x c.before c.after c.item in
         off c.from (members_in set c.from c.member) (omega arith) (omega arith) e)
 
@@ -82,7 +63,7 @@ module _ (g : Grammar) (items : Items) (of : ItemsOf g items) where
 
     pub next_some : (from r : ℕ) → LeastAfter items.after set from (Some r) → Next from r
     next_some from r (f, s, (k, i, e), least) =
-        let h = has_after k r (in-items k i) e s in
+        let h = has_after of.indexed k r (in-items k i) e s in
         record {
           rests = λ x a b. no_step from x a (λ j m l t q. let o = least j m l in omega arith);
           below = (symbol_small k h.left r h.before h.after h.item).0;
@@ -100,7 +81,7 @@ module _ (g : Grammar) (items : Items) (of : ItemsOf g items) where
         (λ m. let (k, i, e, n) = c.only j (members_in r j m) in subst (Carried g (members set) x) (sym n) (carried_item k x i e carried_small)),
         (λ b. let next : suc b.from < 4096 = (let s = of.fit.small in omega (arith, dotted_below g (suc b.from) (dotted_next g b.from b.item))) in
             subst (λ z. Memᴰ z (members r)) (sym b.number)
-            (in_members r r-row (suc b.from) (c.all b.from (members_in set b.from b.member) (after_symbol b.from b.left x b.before b.after b.item) next))),
+            (in_members r r-row (suc b.from) (c.all b.from (members_in set b.from b.member) (after_symbol of.indexed b.from b.left x b.before b.after b.item) next))),
       )
 
       pub carried_kernel : KernelOf g r
@@ -112,11 +93,7 @@ module _ (g : Grammar) (items : Items) (of : ItemsOf g items) where
       goes_to =
           let k = goto_only g (members set) x goes in
           let e = goto_is g (members set) x (members r) ((carried_are k.number).1 k.by) carried_are in
-          let f = sym goes ∙ e in
-          some_one f
-        where
-          some_one : {p q : List ℕ} → some p ≡ some q → p ≡ q
-          some_one h = cc
+          let f = sym goes ∙ e in cc
 
 pub closed_kernel : (g : Grammar) (K words : List ℕ) → Row words → members words ≡ closure g K → KernelOf g words
 closed_kernel g K words row e k h = closed_below ((closure_members g K k).0 (subst (Memᴰ k) e (in_members words row k h)))
@@ -131,7 +108,7 @@ ready_push {es = es} q a k =
       each = λ j e s. ⊎_elim (λ o. q.each j e o) (λ n. subst (λ (z : NumberSet ItemNo). KernelOf q.grammar z.words) n.1 k) (stands_push es a e j s);
     }
 
-abbrev thing : NumberSet ItemNo → List ℕ
+abbrev pub thing : NumberSet ItemNo → List ℕ
 thing e = members e.words
 
 -- what `next_symbol` and `reach` answer, at an entry of the search

@@ -38,13 +38,12 @@ fill_start {t} {s} k rest is =
     }
 
 rules_rise : (rs : List Rule) (n : ℕ) → rules_count (take n rs) ≤ rules_count rs
-rules_rise [] zero = omega arith
+rules_rise rs zero = omega arith
 rules_rise [] (suc n) = omega arith
-rules_rise (r ∷ rs) zero = omega arith
 rules_rise (r ∷ rs) (suc n) = omega (arith, rules_rise rs n)
 
 module _ {t : List ℕ} {s : Summary} {rest : List Rule} {first : ℕ} {after head next : List ℕ} (w : Filled t s rest first after head next)
-    (left : ℕ) (right : List ℕ) (rest' : List Rule) (is : rest ≡ rule left right ∷ rest') where
+    {left : ℕ} {right : List ℕ} {rest' : List Rule} (is : rest ≡ rule left right ∷ rest') where
   abbrev g : Grammar
   g = w.known.grammar
 

@@ -1,5 +1,5 @@
 -- The index of a grammar's items, one rule after the other.
-use Rattle.std.proofs.Common.{◌≡◌, ℕ, zero, suc, ◌+◌, ◌-◌, ◌<◌, ◌≤◌, ◌≢◌, ◌⊎◌, ◌↔◌, List, [], ◌∷◌, ◌++◌, map, length, get_or, take, set, replicate, sym, refl, ap, ◌∙◌, subst, inl, inr, ⊎_elim, append_assoc, arith}
+use Rattle.std.proofs.Common.{◌≡◌, ℕ, zero, suc, ◌+◌, ◌-◌, ◌<◌, ◌≤◌, ◌≢◌, ◌⊎◌, ◌↔◌, List, [], ◌∷◌, ◌++◌, map, length, get_or, take, set, replicate, sym, refl, ap, ◌∙◌, add-one, subst, inl, inr, ⊎_elim, append_assoc, arith}
 use mathlib.Core.Option.{some}
 use mathlib.Core.List.Memᴰ
 use mathlib.Core.List.{Memᴰ}
@@ -13,11 +13,11 @@ use Rattle.std.proofs.lemmas.Bool.Decides.{eqb_tells}
 use Rattle.book.specs.Grammar.{Rule, Grammar, symbols}
 use Rattle.book.specs.Tables.{Name, dots as rules_count}
 use Rattle.book.proofs.Held.{dots_push}
-use Rattle.table.proofs.Lists.{stands_below, stands_is, stands_map, stands_getD, stands_same}
+use Rattle.table.proofs.Lists.{stands_below, stands_is, stands_map, stands_some, stands_same}
 use Rattle.table.proofs.Rows.{zeros_at}
 use Rattle.theory.specs.Items.{Item, item, items, rule_items, dots, item_count, first_item, Dotted, Numbers}
 use Rattle.theory.specs.Items.Numbers.{added, ruled}
-use Rattle.theory.proofs.Items.{dotted_only, dotted_at, dotted_below}
+use Rattle.theory.proofs.Items.{dotted_only, dotted_at, dotted_below, below_dotted}
 use Rattle.machine.specs.Index.{follower, Chain, Passes, FirstAmong, IndexedTo, FirstOf, Indexed}
 use Rattle.machine.specs.Index.Chain.{end, link}
 
@@ -35,23 +35,12 @@ first_next g i r at =
     let more : take (i + 1) g.rules ≡ take i g.rules ++ (r ∷ []) = take_more g.rules i r (stands_below g.rules i r at) ∙ ap (λ k. take i g.rules ++ (k ∷ [])) here in
     omega (arith, ap rules_count more, dots_push (take i g.rules) r)
 
-first_rises : (g : Grammar) (i n : ℕ) → i + n < length g.rules → first_item g i < first_item g (i + (n + 1))
-first_rises g i zero h =
-    let r : Rule = get_or g.rules i (record { left = 0; right = [] }) in
-    let s : get_elem? g.rules i ≡ some r = stands_getD g.rules i (record { left = 0; right = [] }) (omega arith) in
-    let e : i + (zero + 1) ≡ i + 1 = omega arith in
-    subst (λ k. first_item g i < first_item g k) (sym e) (omega (arith, first_next g i r s))
-first_rises g i (suc n) h =
-    let r : Rule = get_or g.rules (i + (n + 1)) (record { left = 0; right = [] }) in
-    let s : get_elem? g.rules (i + (n + 1)) ≡ some r = stands_getD g.rules (i + (n + 1)) (record { left = 0; right = [] }) (omega arith) in
-    let e : i + (suc n + 1) ≡ (i + (n + 1)) + 1 = omega arith in
-    let f = first_rises g i n (omega arith) in
-    subst (λ k. first_item g i < first_item g k) (sym e) (omega (arith, first_next g (i + (n + 1)) r s))
-
 first_below : (g : Grammar) (p i : ℕ) → p < i → i ≤ length g.rules → first_item g p < first_item g i
-first_below g p i h l =
-    let e : p + (((i - p) - 1) + 1) ≡ i = omega arith in
-    subst (λ k. first_item g p < first_item g k) e (first_rises g p ((i - p) - 1) (omega arith))
+first_below g p zero h l = absurd (omega arith)
+first_below g p (suc i) h l =
+    let (r, at) = stands_some g.rules i (omega arith) in
+    rw (← add-one i) (⊎_elim (λ b. omega (arith, first_next g i r at, first_below g p i b (omega arith)))
+    (λ b. let e : p ≡ i = omega arith in omega (arith, first_next g i r at, ap (first_item g) e)) (cases_lt p i))
 
 -- an entry that no chain passes may change
 
@@ -204,6 +193,27 @@ follower_at {g} {after} x k a l r d =
     let below = dotted_below g k d in
     sym (get_or-take (item_count g) after k 0 below) ∙ ap (λ s. get_or s k 0) x.followers
     ∙ stands_is (map follower (items g)) k (follower (item a l r)) 0 (stands_map follower (items g) k (item a l r) d)
+
+-- the symbol after a dot
+pub after_symbol : {g : Grammar} {after head next : List ℕ} → Indexed g after head next → (k a x : ℕ) (l r : List ℕ) → Dotted g k a l (x ∷ r) → get_or after k 0 ≡ x
+after_symbol i k a x l r d = follower_at i k a l (x ∷ r) d
+
+-- an item that has the symbol x after its dot
+pub record Has (g : Grammar) (k x : ℕ) : Type 0 where
+  pub left : ℕ
+  pub before : List ℕ
+  pub after : List ℕ
+  pub item : Dotted g k left before (x ∷ after)
+
+pub has_after : {g : Grammar} {after head next : List ℕ} → Indexed g after head next → (k x : ℕ) → k < item_count g → get_or after k 0 ≡ x → x < 65535 → Has g k x
+has_after {g} i k x b e s =
+    let (a, l, r, d) = below_dotted g k b in with_item a l r d
+  where
+    with_item : (a : ℕ) (l r : List ℕ) → Dotted g k a l r → Has g k x
+    with_item a l [] d = absurd (let f = follower_at i k a l [] d in omega arith)
+    with_item a l (y ∷ r) d =
+        let f : y ≡ x = sym (after_symbol i k a y l r d) ∙ e in
+        record { left = a; before = l; after = r; item = subst (λ z. Dotted g k a l (z ∷ r)) f d }
 
 -- the writes of one rule
 pub rule_followers : (after right ys : List ℕ) (first k : ℕ) → first + (length right + 1) ≤ length after → k ≡ length right → ys ≡ right

@@ -1,7 +1,9 @@
 -- The numbers of a chain, as a list.
-use Rattle.std.proofs.Common.{◌≡◌, ℕ, zero, suc, ◌<◌, ◌≤◌, ◌⊎◌, List, [], ◌∷◌, get_or, set, refl, ap, inl, inr, ⊎_elim, arith}
+use Rattle.std.proofs.Common.{◌≡◌, ℕ, zero, suc, ◌<◌, ◌≤◌, List, [], ◌∷◌, length, get_or, set, refl, ap, ⊎_elim, arith}
 use mathlib.Core.List.Memᴰ
 use mathlib.Core.List.{Memᴰ}
+use Rattle.std.proofs.lemmas.Bool.Decides.{eqb_tells}
+use Rattle.std.proofs.lemmas.List.{get_or-set_same, get_or-set_other}
 use Rattle.machine.specs.Index.{Falls, Chain, passed, links}
 use Rattle.machine.specs.Index.Chain.{end, link}
 
@@ -52,13 +54,6 @@ unfolding links
 links_small next falls k j m = passed_small next falls k k j m
 
 -- what stands in a list after one write
-
-set_either : (xs : List ℕ) (i v n : ℕ) → (get_or (set xs i v) n 0 ≡ v) ⊎ (get_or (set xs i v) n 0 ≡ get_or xs n 0)
-set_either [] i v n = inr refl
-set_either (x ∷ xs) zero v zero = inl refl
-set_either (x ∷ xs) zero v (suc n) = inr refl
-set_either (x ∷ xs) (suc i) v zero = inr refl
-set_either (x ∷ xs) (suc i) v (suc n) = set_either xs i v n
-
-pub set_below : (xs : List ℕ) (i v b : ℕ) → v < b → ((n : ℕ) → get_or xs n 0 < b) → (n : ℕ) → get_or (set xs i v) n 0 < b
-set_below xs i v b h all n = ⊎_elim (λ e. omega (arith, e)) (λ e. omega (arith, e, all n)) (set_either xs i v n)
+pub set_below : (xs : List ℕ) (i v b : ℕ) → i < length xs → v < b → ((n : ℕ) → get_or xs n 0 < b) → (n : ℕ) → get_or (set xs i v) n 0 < b
+set_below xs i v b l h all n =
+    ⊎_elim (λ e. omega (arith, ap (λ k. get_or (set xs i v) k 0) e.1, get_or-set_same xs i v 0 l)) (λ e. omega (arith, get_or-set_other xs i n v 0 e.1, all n)) (eqb_tells n i)

@@ -43,7 +43,7 @@ none_marked =
 
 -- one name more
 
-module _ (list : List ℕ) (count : ℕ) (seen : List Bool) (k : Marked list count seen) (n : ℕ) (small : n < 1024) (wide : length seen ≡ 1024) (e : get_or seen n false ≡ false) where
+module _ {list : List ℕ} {count : ℕ} {seen : List Bool} (k : Marked list count seen) (n : ℕ) (small : n < 1024) (wide : length seen ≡ 1024) (e : get_or seen n false ≡ false) where
   pub note_room : count < 1024
   note_room = let a = k.counted in omega (arith, marks_set seen n (omega arith) e, marks_below (set seen n true), length-set seen n true)
 

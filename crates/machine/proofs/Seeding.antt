@@ -1,11 +1,14 @@
 -- From a kernel to its closure.
-use Rattle.std.proofs.Common.{◌≡◌, ℕ, zero, suc, ◌+◌, ◌-◌, ◌<◌, ◌≤◌, List, [], ◌∷◌, ◌++◌, length, take, slice_get, Some, None, sym, ap, ◌∙◌, subst, ⊎_elim, arith}
+use Rattle.std.proofs.Common.{◌≡◌, ℕ, ◌+◌, ◌-◌, ◌<◌, ◌≤◌, List, [], ◌∷◌, ◌++◌, length, take, slice_get, Some, None, sym, ap, ◌∙◌, subst, ⊎_elim, arith}
 use mathlib.Core.List.Memᴰ
 use mathlib.Core.List.{Memᴰ}
-use Rattle.std.proofs.lemmas.List.{take_all, take-append-le}
+use Rattle.std.proofs.lemmas.Bool.{cases_lt}
+use Rattle.std.proofs.lemmas.List.{take_all, take_more, take-append-le}
+use Rattle.std.proofs.lemmas.Option.{slice_get_within, slice_get-get_or, get_or_from_slice_get}
 use Rattle.book.specs.Grammar.{Grammar}
 use Rattle.book.specs.Tables.{Name}
 use Rattle.table.specs.Sets.{Row, In, members}
+use Rattle.table.proofs.Lists.{mem_at, stands_getD}
 use Rattle.table.proofs.Rows.{members_in, in_members, members_ascending}
 use Rattle.theory.specs.Closure.{Closed, closure}
 use Rattle.theory.specs.Closure.Closed.{kernel, opened}
@@ -16,27 +19,16 @@ use Rattle.machine.specs.declared.closure.Closing.{Closing}
 use Rattle.machine.specs.Index.{FirstOf}
 use Rattle.machine.specs.Closing.{ItemsOf, Within, Grown, OpenedTo}
 
--- nothing yet
-
-pub bare_within : (g : Grammar) (K : List ℕ) (c : Closing) → c.names ≡ [] → ((k : ℕ) → In c.set.words k → ⊥) → Within g K c
-bare_within g K c none empty =
-    record {
-      sound = λ k h. absurd (empty k h);
-      reasons = λ n m. absurd (Memᴰ.not-nil (subst (Memᴰ n) none m));
-      names = λ k a x l r h d n. absurd (empty k h);
-    }
-
 -- the name at hand is noted
 
-pub noted_at : (names : List ℕ) (i n : ℕ) → Some n ≡ slice_get names i → (i < length names) × Memᴰ n names × (take (suc i) names ≡ take i names ++ (n ∷ []))
-noted_at [] i n e = absurd (cc)
-noted_at (x ∷ xs) zero n e = let q : n ≡ x = cc in (omega arith, Memᴰ.head q, ap (λ y. y ∷ []) (sym q))
-noted_at (x ∷ xs) (suc i) n e = let (l, m, t) = noted_at xs i n e in (omega arith, Memᴰ.tail m, ap (λ l. x ∷ l) t)
+pub noted_at : (names : List ℕ) (i n : ℕ) → Some n ≡ slice_get names i → (i < length names) × Memᴰ n names × (take (i + 1) names ≡ take i names ++ (n ∷ []))
+noted_at names i n e =
+    let l = slice_get_within names i n (sym e) in
+    let is = get_or_from_slice_get names i n n (sym e) in
+    (l, subst (λ m. Memᴰ m names) is (mem_at names i _ (stands_getD names i n l)), take_more names i n l ∙ ap (λ m. take i names ++ (m ∷ [])) is)
 
 pub noted_all : (names : List ℕ) (i : ℕ) → None ≡ slice_get names i → length names ≤ i
-noted_all [] i e = omega arith
-noted_all (x ∷ xs) zero e = absurd (cc)
-noted_all (x ∷ xs) (suc i) e = omega (arith, noted_all xs i e)
+noted_all names i e = ⊎_elim (λ l. let s = slice_get-get_or names i 0 l in absurd cc) (λ l. l) (cases_lt i (length names))
 
 -- one name more is open
 pub opened_more : (g : Grammar) (i n : ℕ) (c c' : Closing) → Some n ≡ slice_get c.names i → Grown c c' → OpenedTo g i c
@@ -44,8 +36,7 @@ pub opened_more : (g : Grammar) (i n : ℕ) (c c' : Closing) → Some n ≡ slic
 opened_more g i n c c' at grown before here m k among f =
     let (h, _, t) = noted_at c.names i n at in
     let same : take (i + 1) c'.names ≡ take i c.names ++ (n ∷ []) =
-    ap (take (i + 1)) grown.names ∙ take-append-le (i + 1) c.names grown.more (omega arith)
-    ∙ ap (λ m. take m c.names) (let e : i + 1 ≡ suc i = omega arith in e) ∙ t in
+    ap (take (i + 1)) grown.names ∙ take-append-le (i + 1) c.names grown.more (omega arith) ∙ t in
     ⊎_elim (λ o. grown.still k (before m k o f))
     (λ o. ⊎_elim (λ e. here k (subst (λ z. FirstOf g (g.words + z) k) e f)) (λ z. absurd (Memᴰ.not-nil z)) (Memᴰ.cases_cons o))
     (Memᴰ.append_cases (take i c.names) (subst (Memᴰ m) same among))

@@ -19,7 +19,8 @@ pub struct Closing {
     pub names: Names,
 }
 
-// Each step goes from the items to the closure in the making: in one struct, every step would have to promise that the items stay.
+// Each step goes from the items to the closure in the making: in one struct, every step would have to promise that the items stay. What a step keeps is said of a
+// grammar whose items these are, by name: the items alone do not tell how many names it has.
 impl Items {
     /// The name after an item's dot, by its index, if one stands there.
     fn name_after(&self, item: ItemNo) -> Option<usize>

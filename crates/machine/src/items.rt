@@ -15,16 +15,16 @@ use table::numbers::ItemNo;
 pub const NO_SYMBOL: u16 = 65535;
 
 /// For each item the symbol after its dot, and for each name a chain of the first items of its rules, which ends at 0.
-// Arrays by item number in fixed memory, where 65535 and 0 stand for none: a right side is copied in whole, and item 0 opens no rule.
-// Readers get an Option from `symbol_after` and an iterator from `rules_of`; a whole right side is lent as it stands.
+// Arrays by item number in fixed memory, where 65535 and 0 stand for none: a right side is copied in whole, and item 0 opens no rule. Readers get an Option
+// from `symbol_after` and an iterator from `rules_of`; a whole right side is lent as it stands, and a caller that looks for one symbol compares it with the array.
 #[derive(Drop)]
 pub struct Items {
     pub words: usize,
     pub after: [u16; 4096],
     pub head: [u16; 1024],
     pub next: [u16; 4096],
-    ghost falls: { Falls next },
-    ghost heads: { (n : ℕ) → slice_index head n < 4096 },
+    pub ghost falls: { Falls next },
+    pub ghost heads: { (n : ℕ) → slice_index head n < 4096 },
 }
 
 /// The first items of a name's rules, along their chain, seen as the list of those that are left.
@@ -64,7 +64,7 @@ impl<'a> Iterator for FirstItems<'a> {
 }
 
 impl Items {
-    // Bounds are asked by each call: an item's number may be any of 16 bits, and a name's index is a plain one.
+    // Bounds are asked by each call: a sort of numbers for each bound would ask the same where one is made, and most are made in these calls.
 
     /// The symbol after an item's dot, if one follows.
     pub fn symbol_after(&self, item: ItemNo) -> Option<u16>

@@ -6,7 +6,7 @@ ghost use Rattle.machine.specs.Names.{Noted};
 use std::marker::Model;
 
 /// The names noted so far, seen as the list of their indexes in the order in which they came.
-// A list with its length, and a mark for each name: the memory is fixed, and the list grows while it is gone over.
+// A list with its length, and a mark for each name: the memory is fixed, and the list grows while it is gone over. No set of numbers: a name has no sort of its own.
 #[derive(Drop)]
 pub struct Names {
     list: [u16; 1024],

@@ -1,6 +1,7 @@
 //! Sets of items as a space: each leads on a symbol to the closure of its items with the dot carried over it.
 ghost use Rattle.std.specs.Prelude.{◌≡◌, ℕ, suc, ◌<◌, ◌≤◌, List};
 ghost use Rattle.table.specs.Sets.{In, members};
+ghost use Rattle.table.proofs.Same.{set_exact};
 ghost use Rattle.machine.specs.Reading.{item_search, Readied, LeastAfter, CarriedOver};
 
 use super::items::Items;
@@ -63,4 +64,6 @@ impl Space for ItemSpace<'_> {
         let carried = self.items.carry(&e, x);
         Some(self.items.close(&carried))
     }
+
+    ghost exact = { set_exact };
 }

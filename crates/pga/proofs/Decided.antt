@@ -1,18 +1,16 @@
--- AllByRecursion checks of a file pass exactly where it is framed and the acceptor that is read off it fits.
-use Rattle.std.proofs.Common.{◌≡◌, ℕ, suc, ◌+◌, ◌*◌, ◌<◌, ◌≤◌, List, [], ◌∷◌, ◌++◌, length, sym, subst, arith}
+-- All checks of a file pass exactly where it is framed and the acceptor that is read off it fits.
+use Rattle.std.proofs.Common.{◌≡◌, ℕ, suc, ◌+◌, ◌*◌, ◌≤◌, List, [], ◌∷◌, length, arith, rules}
 use Rattle.std.specs.List.{AllByRecursion}
 use Rattle.std.proofs.lemmas.List.FromFn.{length-map-range_with_len}
-use Rattle.std.proofs.ByRecursion.{All-append}
-use Rattle.table.specs.Lists.{InOrder}
 use Rattle.theory.specs.Flattening.{JumpLess}
 use Rattle.fields.specs.Reading.{number_at}
-use Rattle.fields.specs.Flaws.{ends, Passes, row}
-use Rattle.fields.proofs.Judging.{all_left, all_right, each_part, every_part}
-use Rattle.fields.proofs.Counted.{all_made, each_made, order_next, made_in_order}
-use Rattle.fields.proofs.Rising.{lex_chain, row_rises_next, rises_at, arcs_within, arcs_rise, arcs_pass}
+use Rattle.fields.specs.Flaws.{Passes}
+use Rattle.fields.proofs.Parts.{EachPasses, all_pass, each_passes}
+use Rattle.fields.proofs.Rising.{lex_chain, row_rises_next, rises_at, PassesRow, rows_within, rows_rise, rows_pass, arcs_within, arcs_rise, arcs_pass}
 use Rattle.pga.specs.Files.{JumpFits, Fit}
 use Rattle.pga.specs.Reading.{decoded}
 use Rattle.pga.specs.Flaws.{header_checks, arc_checks, jump_checks, file_checks}
+use Rattle.pga.proofs.Parts.{parts_of}
 use Rattle.pga.proofs.Decoding.{Framed, arc_of, jump_of}
 
 jumps_chain : (x y z : ℕ × ℕ) → JumpLess x y → JumpLess y z → JumpLess x z
@@ -37,7 +35,7 @@ module _ (bytes : List ℕ) where
   -- what the row of a jump says of it, and back
 
   abbrev PassesJump : ℕ → Type 0
-  PassesJump k = AllByRecursion (Passes bytes) (row jumps_start (nodes ∷ (nodes ∷ [])) (jumps_start + 4 * k))
+  PassesJump k = PassesRow bytes jumps_start (nodes ∷ (nodes ∷ [])) jumps (jump_of bytes) k
 
   jump_fits : (k : ℕ) → PassesJump k → JumpFits (decoded bytes) (jump_of bytes k)
   jump_fits k (p, (q, s)) = (p.1.1, q.1.1)
@@ -50,35 +48,20 @@ module _ (bytes : List ℕ) where
   jump_passes k h f up =
       ((omega arith, (omega arith, f.0)), ((omega arith, (omega arith, f.1)), ((omega arith, rises_at bytes jumps_start 4 k up), tt)))
 
-  jumps_pass : jumps_start + 4 * jumps ≤ length bytes → AllByRecursion (JumpFits (decoded bytes)) (decoded bytes).jumps → InOrder JumpLess (decoded bytes).jumps
-      → AllByRecursion (Passes bytes) (jump_checks bytes)
-  jumps_pass long fits up =
-      every_part bytes (λ k. row jumps_start (nodes ∷ (nodes ∷ [])) (jumps_start + 4 * k)) jumps
-      (λ k h. jump_passes k (omega arith) (each_made (jump_of bytes) jumps (JumpFits (decoded bytes)) fits k h)
-      (λ j e. subst (λ m. JumpLess (jump_of bytes j) (jump_of bytes m)) (sym e) (order_next (jump_of bytes) jumps JumpLess up j (omega arith))))
+  -- all checks
 
   module _ (a : AllByRecursion (Passes bytes) (file_checks bytes)) where
-    header_sound : AllByRecursion (Passes bytes) (header_checks bytes)
-    header_sound = all_left bytes (header_checks bytes) _ a
-
-    arcs_sound : AllByRecursion (Passes bytes) (arc_checks bytes)
-    arcs_sound = all_left bytes (arc_checks bytes) _ (all_right bytes (header_checks bytes) _ a)
-
-    rest_sound : AllByRecursion (Passes bytes) (jump_checks bytes ++ (ends (15 + 6 * arcs + 4 * jumps) ∷ []))
-    rest_sound = all_right bytes (arc_checks bytes) _ (all_right bytes (header_checks bytes) _ a)
-
-    jump_row : (k : ℕ) → k < jumps → PassesJump k
-    jump_row =
-        each_part bytes (λ k. row jumps_start (nodes ∷ (nodes ∷ [])) (jumps_start + 4 * k)) jumps (all_left bytes (jump_checks bytes) _ rest_sound)
+    each : EachPasses bytes (header_checks bytes) (arc_checks bytes) (jump_checks bytes) (15 + 6 * arcs + 4 * jumps)
+    each = each_passes bytes (parts_of bytes) a
 
     pub passes_framed : Framed bytes
     passes_framed =
-        let (m, (v, rest)) = header_sound in
-        record { mark = m.1; version = omega (arith, v.1.0, v.1.1); long = (all_right bytes (jump_checks bytes) _ rest_sound).0.1 }
+        let (m, (v, rest)) = each.sound_header in
+        record { mark = m.1; version = omega (arith, v.1.0, v.1.1); long = each.long }
 
     pub passes_fit : Fit (decoded bytes)
     passes_fit =
-        let (m, (v, (w, (n, (l, (x, (y, z))))))) = header_sound in
+        let (m, (v, (w, (n, (l, (x, (y, z))))))) = each.sound_header in
         let n-arcs = length-map-range_with_len (arc_of bytes) 0 arcs in
         let n-jumps = length-map-range_with_len (jump_of bytes) 0 jumps in
         record {
@@ -87,10 +70,10 @@ module _ (bytes : List ℕ) where
           final = l.1.1;
           few_arcs = omega (arith, x.1.1);
           few_jumps = omega (arith, y.1.1);
-          arcs = arcs_within bytes 15 words nodes arcs arcs_sound;
-          jumps = all_made (jump_of bytes) jumps (JumpFits (decoded bytes)) (λ k h. jump_fits k (jump_row k h));
-          arcs_rise = arcs_rise bytes 15 words nodes arcs arcs_sound;
-          jumps_rise = made_in_order (jump_of bytes) jumps JumpLess jumps_chain (λ k h. jump_rises k (jump_row (suc k) h));
+          arcs = arcs_within bytes 15 words nodes arcs each.sound_one;
+          jumps = rows_within bytes jumps_start (nodes ∷ (nodes ∷ [])) jumps (jump_of bytes) each.sound_two (JumpFits (decoded bytes)) jump_fits;
+          arcs_rise = arcs_rise bytes 15 words nodes arcs each.sound_one;
+          jumps_rise = rows_rise bytes jumps_start (nodes ∷ (nodes ∷ [])) jumps (jump_of bytes) each.sound_two JumpLess jumps_chain jump_rises;
         }
 
   pub fit_passes : Framed bytes → Fit (decoded bytes) → AllByRecursion (Passes bytes) (file_checks bytes)
@@ -99,26 +82,13 @@ module _ (bytes : List ℕ) where
       let n-arcs = length-map-range_with_len (arc_of bytes) 0 arcs in
       let n-jumps = length-map-range_with_len (jump_of bytes) 0 jumps in
       let (w₁, w₂) = f.words in let (n₁, n₂) = f.nodes in let l = f.final in
-      let x = f.few_arcs in let y = f.few_jumps in let v = g.version in
-      let head : AllByRecursion (Passes bytes) (header_checks bytes) = (
-        (omega arith, g.mark),
-        (
-          (omega arith, (omega arith, omega arith)),
-          (
-            (omega arith, (omega arith, omega arith)),
-            (
-              (omega arith, (omega arith, omega arith)),
-              (
-                (omega arith, (omega arith, omega arith)),
-                (
-                  (omega arith, (omega arith, omega arith)),
-                  ((omega arith, (omega arith, omega arith)), tt),
-                ),
-              ),
-            ),
-          ),
-        ),
-      ) in
-      All-append (Passes bytes) (header_checks bytes) _ head
-      (All-append (Passes bytes) (arc_checks bytes) _ (arcs_pass bytes 15 words nodes arcs (omega arith) f.arcs f.arcs_rise)
-      (All-append (Passes bytes) (jump_checks bytes) _ (jumps_pass (omega arith) f.jumps f.jumps_rise) ((omega arith, long), tt)))
+      let x = f.few_arcs in let y = f.few_jumps in let v = g.version in let m = g.mark in
+      all_pass bytes (parts_of bytes)
+      (record {
+        sound_header = search rules;
+        sound_one = arcs_pass bytes 15 words nodes arcs (omega arith) f.arcs f.arcs_rise;
+        sound_two =
+            rows_pass bytes jumps_start (nodes ∷ (nodes ∷ [])) jumps (jump_of bytes) (JumpFits (decoded bytes)) JumpLess
+            (λ k h. jump_passes k (omega arith)) f.jumps f.jumps_rise;
+        long = long;
+      })

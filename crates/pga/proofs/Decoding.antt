@@ -1,7 +1,6 @@
 -- A file and the acceptor that is read off its bytes.
-use Rattle.std.proofs.Common.{◌≡◌, ℕ, ◌+◌, ◌*◌, ◌<◌, ◌≤◌, List, [], ◌∷◌, ◌++◌, length, take, drop, codes, sym, refl, ap, ◌∙◌, subst, append-nil, arith}
+use Rattle.std.proofs.Common.{◌≡◌, ℕ, ◌+◌, ◌*◌, ◌<◌, ◌≤◌, List, [], ◌++◌, length, take, drop, codes, sym, refl, ap, ◌∙◌, subst, arith}
 use Rattle.std.specs.List.{flat_map as joined, AllByRecursion}
-use Rattle.std.proofs.lemmas.List.{take-append-drop, drop_all}
 use Rattle.std.proofs.lemmas.List.FromFn.{length-map-range_with_len}
 use Rattle.book.specs.Files.{bytes_of}
 use Rattle.book.specs.Reading.{numbers}
@@ -10,9 +9,9 @@ use Rattle.finding.specs.Numbered.{Arrow}
 use Rattle.theory.specs.Flattening.{Acceptor}
 use Rattle.fields.specs.Arcs.{arc_numbers}
 use Rattle.fields.specs.Reading.{number_at, arc_in}
-use Rattle.fields.proofs.Lists.{joined_joined}
+use Rattle.fields.proofs.Lists.{joined_joined, all_same}
 use Rattle.fields.proofs.Arcs.{arc_bytes, same_arcs}
-use Rattle.fields.proofs.Read.{rows_read, two_read, arc_read, arcs_read}
+use Rattle.fields.proofs.Read.{rows_read, parts_read, two_read, arc_read, arcs_read}
 use Rattle.pga.specs.Files.{jump_numbers, header_numbers, file_numbers, file_of}
 use Rattle.pga.specs.Reading.{jump_in, jumps_from, decoded}
 use Rattle.pga.proofs.Arcs.{jump_bytes}
@@ -54,25 +53,17 @@ module _ (bytes : List ℕ) (small : AllByRecursion (λ b. b < 256) bytes) where
       let a = decoded bytes in
       let arcs = number_at bytes 11 in let jumps = number_at bytes 13 in
       let long = f.long in
-      let end : drop (15 + 6 * arcs + 4 * jumps) bytes ≡ [] = drop_all _ bytes (omega arith) in
-      let last : drop (15 + 6 * arcs) bytes ≡ jump_bytes a.jumps =
-      jumps_read (15 + 6 * arcs) jumps (omega arith) ∙ ap (λ l. jump_bytes a.jumps ++ l) end ∙ append-nil (jump_bytes a.jumps) in
-      sym (take-append-drop 3 bytes) ∙ ap (λ l. l ++ drop 3 bytes) f.mark
-      ∙ ap (λ l. codes "PGA" ++ l) (header_read (omega arith) f.version
-      ∙ ap (λ l. joined bytes_of (header_numbers a) ++ l) (arcs_read bytes small 15 arcs (omega arith) ∙ ap (λ l. arc_bytes a.arcs ++ l) last))
+      parts_read bytes (codes "PGA") (joined bytes_of (header_numbers a)) (arc_bytes a.arcs) (jump_bytes a.jumps)
+      3 15 (15 + 6 * arcs) (15 + 6 * arcs + 4 * jumps) f.mark (header_read (omega arith) f.version)
+      (arcs_read bytes small 15 arcs (omega arith)) (jumps_read (15 + 6 * arcs) jumps (omega arith)) (omega arith)
       ∙ sym (file_parts a)
 
 -- one file for each acceptor
 
-same_jumps : (ms ns : List (ℕ × ℕ)) → joined jump_numbers ms ≡ joined jump_numbers ns → ms ≡ ns
-same_jumps [] [] e = refl
-same_jumps [] (n ∷ ns) e = let z : ◌≡◌ {A = ℕ} 0 1 = cc in absurd (omega arith)
-same_jumps (m ∷ ms) [] e = let z : ◌≡◌ {A = ℕ} 0 1 = cc in absurd (omega arith)
-same_jumps (m ∷ ms) (n ∷ ns) e =
-    let p : m.0 ≡ n.0 = cc in let q : m.1 ≡ n.1 = cc in
-    let t : joined jump_numbers ms ≡ joined jump_numbers ns = cc in
-    let k = same_jumps ms ns t in
-    λ i. (p i, q i) ∷ k i
+same_jumps : (ms ns : List (ℕ × ℕ)) → length ms ≡ length ns → joined jump_numbers ms ≡ joined jump_numbers ns → ms ≡ ns
+same_jumps ms ns l e =
+    (all_same jump_numbers (λ m n us vs e. let p : m.0 ≡ n.0 = cc in let q : m.1 ≡ n.1 = cc in ((λ i. (p i, q i)), cc))
+    ms ns [] [] l (ap (λ l. l ++ []) e)).0
 
 pub file_one : (a b : Acceptor) → file_of a ≡ file_of b → a ≡ b
 file_one a b e =
@@ -83,7 +74,7 @@ file_one a b e =
     let rest : joined arc_numbers a.arcs ++ joined jump_numbers a.jumps
     ≡ joined arc_numbers b.arcs ++ joined jump_numbers b.jumps = cc in
     let (arcs, more) = same_arcs a.arcs b.arcs _ _ long rest in
-    let jumps = same_jumps a.jumps b.jumps more in
+    let jumps = same_jumps a.jumps b.jumps (cc) more in
     λ i. record { words = words i; nodes = nodes i; final = final i; arcs = arcs i; jumps = jumps i }
 
 -- a file is framed

@@ -3,6 +3,7 @@ use Rattle.std.proofs.Common.{◌≡◌, ℕ, zero, suc, ◌+◌, ◌-◌, ◌*�
 use Rattle.std.specs.List.{range_with_len, flat_map}
 use Rattle.std.proofs.lemmas.List.{length-append, take_more, flat_map_more}
 use Rattle.std.proofs.lemmas.List.FromFn.{map-range_with_len_more}
+use Rattle.std.proofs.lemmas.List.Folds.{flat_map-map}
 use Rattle.std.proofs.lemmas.Fmt.{length-decimal-le}
 use Rattle.fields.specs.declared.output.Output.{Output}
 use Rattle.fields.specs.Reading.{number_at, arc_in, arcs_from}
@@ -79,8 +80,7 @@ length_parted (n ∷ ns) (suc k) fits =
 -- rows of two texts that are one
 same_text : {A B : Type 0} (s : A → List ℕ) (t : B → List ℕ) (f : ℕ → A) (g : ℕ → B) → ((k : ℕ) → s (f k) ≡ t (g k)) → (xs : List ℕ)
     → flat_map s (map f xs) ≡ flat_map t (map g xs)
-same_text s t f g each [] = refl
-same_text s t f g each (x ∷ xs) = λ i. each x i ++ same_text s t f g each xs i
+same_text s t f g each xs = flat_map-map s f xs ∙ (λ i. flat_map (λ x. each x i) xs) ∙ sym (flat_map-map t g xs)
 
 module _ (bytes : List ℕ) (start n : ℕ) where
   -- rows of three numbers are arcs

@@ -17,12 +17,12 @@ use Rattle.pga.proofs.Decided.{passes_framed, passes_fit, fit_passes}
 
 module _ (bytes : List ℕ) (small : AllByRecursion (λ b. b < 256) bytes) where
   -- a file passes all checks
-  pub file_passes : (a : Acceptor) → IsFile bytes a → AllByRecursion (Passes bytes) (file_checks bytes)
+  file_passes : (a : Acceptor) → IsFile bytes a → AllByRecursion (Passes bytes) (file_checks bytes)
   file_passes a f =
       fit_passes bytes (subst Framed (sym f.is) (file_framed a)) (subst Fit (file_decoded bytes a small f.is) f.fit)
 
   -- and what passes all checks is a file
-  pub passes_file : AllByRecursion (Passes bytes) (file_checks bytes) → IsFile bytes (decoded bytes)
+  passes_file : AllByRecursion (Passes bytes) (file_checks bytes) → IsFile bytes (decoded bytes)
   passes_file a = record { fit = passes_fit bytes a; is = framed_file bytes small (passes_framed bytes a) }
 
   is_decoded : (a : Acceptor) → IsFile bytes a → a ≡ decoded bytes
@@ -34,9 +34,6 @@ module _ (bytes : List ℕ) (small : AllByRecursion (λ b. b < 256) bytes) where
       let jumps = k.jumps ∙ sym (length-map-range_with_len (jump_of bytes) 0 (number_at bytes 13)) in
       λ i. record { words = k.words i; nodes = k.nodes i; final_node = k.final i; arcs = arcs i; jumps = jumps i }
 
-  pub checked : (r : Result Header AcceptorFault) → WholeJudged bytes r → Checked bytes r
-  checked r j = checked_file Fit file_of decoded header file_checks Headed bytes passes_file header_is r j
-
   pub only_checked : (r : Result Header AcceptorFault) → WholeJudged bytes r → OnlyChecked bytes r
   only_checked r j = only_file Fit file_of decoded header file_checks Headed bytes passes_file is_decoded file_passes r j
 
@@ -44,4 +41,8 @@ module _ (bytes : List ℕ) (small : AllByRecursion (λ b. b < 256) bytes) where
 pub answered : (bytes : List ℕ) → ((i : ℕ) → Fits w8 (get_or bytes i 0)) → (r : Result Header AcceptorFault) → WholeJudged bytes r
     → record { checked : Checked bytes r; only : OnlyChecked bytes r }
 answered bytes fits r j =
-    let small = small_bytes bytes fits in record { checked = checked bytes small r j; only = only_checked bytes small r j }
+    let small = small_bytes bytes fits in
+    record {
+      checked = checked_file Fit file_of decoded header file_checks Headed bytes (passes_file bytes small) (header_is bytes small) r j;
+      only = only_checked bytes small r j;
+    }

@@ -1,14 +1,11 @@
--- The parts of a file, put one after the other, are the file.
-use Rattle.std.proofs.Common.{◌≡◌, ◌++◌, length, codes, sym, ap, ◌∙◌, subst, arith}
+-- The bytes of a file, part by part, and its length.
+use Rattle.std.proofs.Common.{◌≡◌, ◌++◌, length, codes, ap, ◌∙◌, arith}
 use Rattle.std.specs.List.{flat_map}
 use Rattle.std.proofs.lemmas.List.{length-append}
 use Rattle.std.proofs.lemmas.Grind.{flat_map-append}
 use Rattle.book.specs.Files.{bytes_of}
 use Rattle.theory.specs.Flattening.{Acceptor, file_length}
 use Rattle.fields.specs.Arcs.{arc_numbers}
-use Rattle.fields.specs.declared.output.Output.{Output}
-use Rattle.fields.specs.Putting.{Puts}
-use Rattle.fields.proofs.Putting.{puts_then}
 use Rattle.fields.proofs.Arcs.{arc_bytes, length_arc_bytes}
 use Rattle.pga.specs.Files.{jump_numbers, header_numbers, file_of}
 use Rattle.pga.proofs.Arcs.{jump_bytes, length_jump_bytes}
@@ -26,9 +23,3 @@ pub length_file : (a : Acceptor) → length (file_of a) ≡ file_length a
 length_file a =
     ap length (file_parts a)
     ∙ omega (arith, length-append (arc_bytes a.arcs) (jump_bytes a.jumps), length_arc_bytes a.arcs, length_jump_bytes a.jumps)
-
-module _ (a : Acceptor) (o p q r s : Output) where
-  pub file_puts : Puts o (codes "PGA") p → Puts p (flat_map bytes_of (header_numbers a)) q
-      → Puts q (arc_bytes a.arcs) r → Puts r (jump_bytes a.jumps) s → Puts o (file_of a) s
-  file_puts w x y z =
-      subst (λ t. Puts o t s) (sym (file_parts a)) (puts_then o p s _ _ w (puts_then p q s _ _ x (puts_then q r s _ _ y z)))

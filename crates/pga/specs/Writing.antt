@@ -19,10 +19,6 @@ abbrev pub acceptor : ℕ → ℕ → NodeNo → List (Move NodeNo) → List Jum
 acceptor words nodes final moves jumps =
     record { words = words; nodes = nodes; final = final.0; arcs = word_moves words (arrows moves); jumps = pairs jumps }
 
--- the output begins with the n bytes of the file of a, and all after them is as it was
-abbrev pub FileWritten : Acceptor → List ℕ → List ℕ → ℕ → Type 0
-FileWritten a out out' n = WrittenFile Fit file_of file_length a out out' n
-
 -- what write answers and leaves
 abbrev pub Written : Acceptor → List ℕ → Result ℕ OutputShort → List ℕ → Type 0
 Written a out r out' = WrittenBy Fit file_of file_length a out r out'

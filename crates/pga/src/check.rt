@@ -16,7 +16,7 @@ pub struct Header {
     pub jumps: usize,
 }
 
-// The layouts of the two kinds differ after the front, and what both share stands in `fields`.
+// The layouts of the two kinds differ after the front; what both share stands in `fields`, but for the comparison of a length in each.
 
 /// The header, each of its fields in its range.
 fn check_header(file: &[u8]) -> Result<Header, AcceptorFault>

@@ -12,7 +12,7 @@ pub enum ListFault {
     /// it is no acceptor's file
     File(AcceptorFault),
     /// the output is too short for this many bytes
-    // The case holds the bytes alone: the layer of a short output depends on the call, so the struct has no refusal.
+    // The number alone: no call of `list` makes the struct.
     OutputShort(usize),
 }
 

@@ -13,6 +13,7 @@ use fields::check::number_at;
 use fields::format::ARC_SIZE;
 use fields::output::Output;
 use itoa::Buffer;
+use std::array;
 
 /// What a compile counts: states, moves, nodes, unfolded moves, arcs and jumps.
 #[derive(Clone, Copy, PartialEq, Eq, Debug)]
@@ -54,11 +55,7 @@ fn row_at<const N: usize>(file: &[u8], at: usize) -> [usize; N]
     requires { at + 2 * N ≤ length file.now }
     ensures { result ≡ row_numbers file.now at N }
 {
-    let mut row = [0; N];
-    for (i, number) in row.iter_mut().enumerate() {
-        *number = number_at(file, at + 2 * i);
-    }
-    row
+    array::from_fn(|i| number_at(file, at + 2 * i))
 }
 
 /// Puts the rows of N numbers that stand in the file from `start` on, a line each.
@@ -68,7 +65,7 @@ fn put_rows<const N: usize>(out: &mut Output, file: &[u8], start: usize, count: 
     ensures puts { Puts out.old (flat_map line (rows_from file.now start N count)) out.new }
     ensures short { out.new.at ≤ out.old.at + 128 * count }
 {
-    // By the number of the row: each number is read where it stands in the file.
+    // By the number of the row, as the clause names it: of a chunk that is cut out it would have to be shown which row it is.
     for k in 0..count {
         put_line(out, &row_at::<N>(file, start + 2 * N * k));
     }

@@ -24,6 +24,7 @@ pub struct Parts<'a> {
     pub final_node: NodeNo,
     pub moves: &'a [Move<NodeNo>],
     pub jumps: &'a [Jump],
+    pub ghost few: { (length moves.now ≤ 16384) × (length jumps.now ≤ 16384) },
 }
 
 /// Puts the jumps.
@@ -36,11 +37,11 @@ fn put_jumps(out: &mut Output, jumps: &[Jump])
     }
 }
 
-// The layouts of the two kinds differ after the front, and what both share stands in `fields`.
+// The layouts of the two kinds differ after the front; what both share stands in `fields`, but for the comparison of a length in each.
 
 /// The numbers in front of the arcs.
 fn header_of(parts: Parts, arcs: usize) -> [u16; 6]
-    requires { (arcs ≤ 16384) × (length parts.jumps.now ≤ 16384) }
+    requires { arcs ≤ 16384 }
     ensures { result
         ≡ 1 ∷ (parts.entry.words ∷ (parts.entry.nodes ∷ (parts.entry.final_node.0 ∷ (arcs ∷ (length parts.entry.jumps.now ∷ []))))) }
 {
@@ -56,7 +57,6 @@ fn header_of(parts: Parts, arcs: usize) -> [u16; 6]
 
 /// Writes the file of an acceptor; the length used.
 pub fn write(parts: Parts, out: &mut [u8]) -> Result<usize, OutputShort>
-    requires { (length parts.moves.now ≤ 16384) × (length parts.jumps.now ≤ 16384) }
     ensures { Written
         (acceptor parts.entry.words parts.entry.nodes parts.entry.final_node parts.entry.moves.now parts.entry.jumps.now)
         out.old result out.new }

@@ -41,6 +41,8 @@ pub const COUNTS: Counts = Counts {
 /// Its text.
 pub const TEXT: [u8; 46] = *b"5 5 5 5 3 4\n0 0 1\n1 0 1\n3 1 4\n0 2\n1 3\n4 2\n4 3\n";
 
+// Beside the other kind's tests, which number states: a crate for both would be longer.
+
 /// The move of these numbers.
 pub fn move_of((from, symbol, to): (u16, u16, u16)) -> Move<NodeNo> {
     Move {

@@ -1,16 +1,17 @@
--- AllByRecursion checks of a file pass exactly where it is framed and the determinised acceptor that is read off it fits.
-use Rattle.std.proofs.Common.{ℕ, ◌+◌, ◌*◌, List, [], ◌∷◌, ◌++◌, arith}
+-- All checks of a file pass exactly where it is framed and the determinised acceptor that is read off it fits.
+use Rattle.std.proofs.Common.{ℕ, ◌+◌, ◌*◌, List, [], ◌∷◌, arith, rules}
 use Rattle.std.specs.List.{AllByRecursion}
 use Rattle.std.proofs.lemmas.List.FromFn.{length-map-range_with_len}
-use Rattle.std.proofs.ByRecursion.{All-append}
 use Rattle.finding.specs.Numbered.{Arrow}
 use Rattle.fields.specs.Reading.{number_at, arc_in}
-use Rattle.fields.specs.Flaws.{flagged, ends, Passes}
-use Rattle.fields.proofs.Judging.{all_left, all_right, each_part, every_part}
+use Rattle.fields.specs.Flaws.{flagged, Passes}
+use Rattle.fields.proofs.Judging.{each_part, every_part}
+use Rattle.fields.proofs.Parts.{EachPasses, all_pass, each_passes}
 use Rattle.fields.proofs.Rising.{arcs_within, arcs_rise, arcs_pass}
 use Rattle.pgd.specs.Files.{Fit}
 use Rattle.pgd.specs.Reading.{final_flag_at, decoded}
 use Rattle.pgd.specs.Flaws.{header_checks, state_checks, arc_checks, file_checks}
+use Rattle.pgd.proofs.Parts.{parts_of}
 use Rattle.pgd.proofs.Decoding.{Framed}
 
 module _ (bytes : List ℕ) where
@@ -27,39 +28,30 @@ module _ (bytes : List ℕ) where
   arc_of k = arc_in bytes (11 + number_at bytes 7 + 6 * k)
 
   module _ (a : AllByRecursion (Passes bytes) (file_checks bytes)) where
-    header_sound : AllByRecursion (Passes bytes) header_checks
-    header_sound = all_left bytes header_checks _ a
-
-    states_sound : AllByRecursion (Passes bytes) (state_checks bytes)
-    states_sound = all_left bytes (state_checks bytes) _ (all_right bytes header_checks _ a)
-
-    rest_sound : AllByRecursion (Passes bytes) (arc_checks bytes ++ (ends (11 + states + 6 * arcs) ∷ []))
-    rest_sound = all_right bytes (state_checks bytes) _ (all_right bytes header_checks _ a)
-
-    arcs_sound : AllByRecursion (Passes bytes) (arc_checks bytes)
-    arcs_sound = all_left bytes (arc_checks bytes) _ rest_sound
+    each : EachPasses bytes header_checks (state_checks bytes) (arc_checks bytes) (11 + states + 6 * arcs)
+    each = each_passes bytes (parts_of bytes) a
 
     pub passes_framed : Framed bytes
     passes_framed =
-        let (m, (v, rest)) = header_sound in
+        let (m, (v, rest)) = each.sound_header in
         record {
           mark = m.1;
           version = omega (arith, v.1.0, v.1.1);
-          flags = λ k h. (each_part bytes (λ j. flagged (11 + j) ∷ []) states states_sound k h).0.1;
-          long = (all_right bytes (arc_checks bytes) _ rest_sound).0.1;
+          flags = λ k h. (each_part bytes (λ j. flagged (11 + j) ∷ []) states each.sound_one k h).0.1;
+          long = each.long;
         }
 
     pub passes_fit : Fit (decoded bytes)
     passes_fit =
-        let (m, (v, (w, (n, (x, z))))) = header_sound in
+        let (m, (v, (w, (n, (x, z))))) = each.sound_header in
         let n-arcs = length-map-range_with_len arc_of 0 arcs in
         record {
           words = (w.1.0, omega (arith, w.1.1));
           states = (n.1.0, omega (arith, n.1.1));
           finals = length-map-range_with_len (λ k. final_flag_at bytes (11 + k)) 0 states;
           few_arcs = omega (arith, x.1.1);
-          arcs = arcs_within bytes (11 + states) words states arcs arcs_sound;
-          arcs_rise = arcs_rise bytes (11 + states) words states arcs arcs_sound;
+          arcs = arcs_within bytes (11 + states) words states arcs each.sound_two;
+          arcs_rise = arcs_rise bytes (11 + states) words states arcs each.sound_two;
         }
 
   pub fit_passes : Framed bytes → Fit (decoded bytes) → AllByRecursion (Passes bytes) (file_checks bytes)
@@ -67,19 +59,11 @@ module _ (bytes : List ℕ) where
       let long = g.long in let v = g.version in
       let n-arcs = length-map-range_with_len arc_of 0 arcs in
       let (w₁, w₂) = f.words in let (n₁, n₂) = f.states in let x = f.few_arcs in
-      let head : AllByRecursion (Passes bytes) header_checks = (
-        (omega arith, g.mark),
-        (
-          (omega arith, (omega arith, omega arith)),
-          (
-            (omega arith, (omega arith, omega arith)),
-            ((omega arith, (omega arith, omega arith)), ((omega arith, (omega arith, omega arith)), tt)),
-          ),
-        ),
-      ) in
-      let flags : AllByRecursion (Passes bytes) (state_checks bytes) =
-      every_part bytes (λ j. flagged (11 + j) ∷ []) states (λ k h. ((omega arith, g.flags k h), tt)) in
-      All-append (Passes bytes) header_checks _ head
-      (All-append (Passes bytes) (state_checks bytes) _ flags
-      (All-append (Passes bytes) (arc_checks bytes) _ (arcs_pass bytes (11 + states) words states arcs (omega arith) f.arcs f.arcs_rise)
-      ((omega arith, long), tt)))
+      let m = g.mark in
+      all_pass bytes (parts_of bytes)
+      (record {
+        sound_header = search rules;
+        sound_one = every_part bytes (λ j. flagged (11 + j) ∷ []) states (λ k h. ((omega arith, g.flags k h), tt));
+        sound_two = arcs_pass bytes (11 + states) words states arcs (omega arith) f.arcs f.arcs_rise;
+        long = long;
+      })

@@ -1,7 +1,7 @@
 -- A file and the determinised acceptor that is read off its bytes.
-use Rattle.std.proofs.Common.{◌≡◌, ℕ, zero, suc, ◌+◌, ◌*◌, ◌<◌, ◌≤◌, Bool, true, false, eqb, List, [], ◌∷◌, ◌++◌, map, length, get_or, take, drop, codes, sym, refl, ap, ◌∙◌, subst, append-nil, arith}
+use Rattle.std.proofs.Common.{◌≡◌, ℕ, zero, suc, ◌+◌, ◌*◌, ◌<◌, ◌≤◌, Bool, true, false, eqb, List, [], ◌∷◌, ◌++◌, map, length, get_or, take, drop, codes, sym, refl, ap, ◌∙◌, subst, arith}
 use Rattle.std.specs.List.{flat_map, AllByRecursion}
-use Rattle.std.proofs.lemmas.List.{take-append-drop, drop_all, drop_more, length-map, get_or_append_left, get_or-append-add}
+use Rattle.std.proofs.lemmas.List.{drop_more, length-map, get_or_append_left, get_or-append-add}
 use Rattle.std.proofs.lemmas.List.FromFn.{length-map-range_with_len}
 use Rattle.std.proofs.ByRecursion.{All-get_or}
 use Rattle.std.proofs.lemmas.List.Concat.{flat_map_single}
@@ -11,8 +11,9 @@ use Rattle.book.proofs.Numbers.{numbers_bytes}
 use Rattle.theory.specs.Subsets.{Determined}
 use Rattle.fields.specs.Arcs.{arc_numbers}
 use Rattle.fields.specs.Reading.{number_at, arc_in}
+use Rattle.fields.proofs.Lists.{all_same}
 use Rattle.fields.proofs.Arcs.{arc_bytes, same_arcs}
-use Rattle.fields.proofs.Read.{rows_read, two_read, arcs_read}
+use Rattle.fields.proofs.Read.{rows_read, parts_read, two_read, arcs_read}
 use Rattle.pgd.specs.Files.{header_numbers, final_byte, file_of}
 use Rattle.pgd.specs.Reading.{final_flag_at, finals_from, decoded}
 use Rattle.pgd.proofs.Written.{length_file}
@@ -59,14 +60,11 @@ module _ (bytes : List ℕ) (small : AllByRecursion (λ b. b < 256) bytes) where
       let d = decoded bytes in
       let states = number_at bytes 7 in let arcs = number_at bytes 9 in
       let long = f.long in
-      let end : drop (11 + states + 6 * arcs) bytes ≡ [] = drop_all _ bytes (omega arith) in
-      let last : drop (11 + states) bytes ≡ arc_bytes d.arcs =
-      arcs_read bytes small (11 + states) arcs (omega arith) ∙ ap (λ l. arc_bytes d.arcs ++ l) end ∙ append-nil (arc_bytes d.arcs) in
-      let rest = finals_read bytes 11 states (omega arith) f.flags ∙ ap (λ l. map final_byte d.finals ++ l) last in
-      sym (take-append-drop 3 bytes) ∙ ap (λ l. l ++ drop 3 bytes) f.mark
-      ∙ ap (λ l. codes "PGD" ++ l) (header_read (omega arith) f.version ∙ ap (λ l. flat_map bytes_of (header_numbers d) ++ l) rest)
+      parts_read bytes (codes "PGD") (flat_map bytes_of (header_numbers d)) (map final_byte d.finals) (arc_bytes d.arcs)
+      3 11 (11 + states) (11 + states + 6 * arcs) f.mark (header_read (omega arith) f.version)
+      (finals_read bytes 11 states (omega arith) f.flags) (arcs_read bytes small (11 + states) arcs (omega arith)) (omega arith)
 
--- one file for each determinised acceptor
+-- one file for each determinised acceptor: the bytes of states are no numbers, so the numbers are read in their places
 
 same_byte : (x y : Bool) → final_byte x ≡ final_byte y → x ≡ y
 same_byte true true e = refl
@@ -75,14 +73,9 @@ same_byte false true e = absurd (omega arith)
 same_byte false false e = refl
 
 same_finals : (xs ys : List Bool) (us vs : List ℕ) → length xs ≡ length ys → map final_byte xs ++ us ≡ map final_byte ys ++ vs → (xs ≡ ys) × (us ≡ vs)
-same_finals [] [] us vs l e = (refl, e)
-same_finals [] (y ∷ ys) us vs l e = absurd (omega arith)
-same_finals (x ∷ xs) [] us vs l e = absurd (omega arith)
-same_finals (x ∷ xs) (y ∷ ys) us vs l e =
-    let p : final_byte x ≡ final_byte y = cc in
-    let t : map final_byte xs ++ us ≡ map final_byte ys ++ vs = cc in
-    let (k, z) = same_finals xs ys us vs (omega arith) t in
-    ((λ i. same_byte x y p i ∷ k i), z)
+same_finals xs ys us vs l e =
+    all_same (λ b. final_byte b ∷ []) (λ x y us vs e. (same_byte x y cc, cc)) xs ys us vs l
+    (ap (λ l. l ++ us) (flat_map_single final_byte xs) ∙ e ∙ ap (λ l. l ++ vs) (sym (flat_map_single final_byte ys)))
 
 module _ (d e : Determined) (d-finals : length d.finals ≡ d.states) (e-finals : length e.finals ≡ e.states) where
   pub file_one : file_of d ≡ file_of e → d ≡ e

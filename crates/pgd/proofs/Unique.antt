@@ -34,9 +34,6 @@ module _ (bytes : List ℕ) (small : AllByRecursion (λ b. b < 256) bytes) where
       let arcs = k.arcs ∙ sym (length-map-range_with_len (λ j. arc_in bytes (11 + number_at bytes 7 + 6 * j)) 0 (number_at bytes 9)) in
       λ i. record { words = k.words i; states = k.states i; arcs = arcs i }
 
-  pub checked : (r : Result Header AcceptorFault) → WholeJudged bytes r → Checked bytes r
-  checked r j = checked_file Fit file_of decoded header file_checks Headed bytes passes_file header_is r j
-
   pub only_checked : (r : Result Header AcceptorFault) → WholeJudged bytes r → OnlyChecked bytes r
   only_checked r j = only_file Fit file_of decoded header file_checks Headed bytes passes_file is_decoded file_passes r j
 
@@ -44,4 +41,8 @@ module _ (bytes : List ℕ) (small : AllByRecursion (λ b. b < 256) bytes) where
 pub answered : (bytes : List ℕ) → ((i : ℕ) → Fits w8 (get_or bytes i 0)) → (r : Result Header AcceptorFault) → WholeJudged bytes r
     → record { checked : Checked bytes r; only : OnlyChecked bytes r }
 answered bytes fits r j =
-    let small = small_bytes bytes fits in record { checked = checked bytes small r j; only = only_checked bytes small r j }
+    let small = small_bytes bytes fits in
+    record {
+      checked = checked_file Fit file_of decoded header file_checks Headed bytes (passes_file bytes small) (header_is bytes small) r j;
+      only = only_checked bytes small r j;
+    }

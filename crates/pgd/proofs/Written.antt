@@ -1,16 +1,14 @@
--- The length of a file, and the parts of one, put one after the other.
-use Rattle.std.proofs.Common.{◌≡◌, Bool, true, List, [], ◌∷◌, map, length, codes, refl, ap, subst, arith}
-use Rattle.std.specs.List.{filter, flat_map}
+-- The length of a file, and the moves that are put as its arcs.
+use Rattle.std.proofs.Common.{◌≡◌, Bool, true, List, [], ◌∷◌, map, length, refl, ap, subst, arith}
+use Rattle.std.specs.List.{filter}
 use Rattle.std.proofs.lemmas.List.{length-append, length-map}
-use Rattle.book.specs.Files.{bytes_of}
 use Rattle.table.specs.declared.numbers.StateNo.{StateNo}
 use Rattle.finding.specs.declared.moves.Move.{Move}
 use Rattle.theory.specs.Subsets.{Determined, determined_length}
 use Rattle.fields.specs.declared.output.Output.{Output}
 use Rattle.fields.specs.Putting.{Puts, PutsArcs}
 use Rattle.fields.proofs.Arcs.{arc_bytes, length_arc_bytes}
-use Rattle.fields.proofs.Putting.{puts_then}
-use Rattle.pgd.specs.Files.{header_numbers, final_byte, file_of}
+use Rattle.pgd.specs.Files.{final_byte, file_of}
 use Rattle.pgd.specs.Writing.{arrows}
 
 -- every move is wanted
@@ -32,8 +30,3 @@ length_file d e =
       length_arc_bytes d.arcs,
       e,
     )
-
-module _ (d : Determined) (o p q r s : Output) where
-  pub file_puts : Puts o (codes "PGD") p → Puts p (flat_map bytes_of (header_numbers d)) q
-      → Puts q (map final_byte d.finals) r → Puts r (arc_bytes d.arcs) s → Puts o (file_of d) s
-  file_puts w x y z = puts_then o p s _ _ w (puts_then p q s _ _ x (puts_then q r s _ _ y z))

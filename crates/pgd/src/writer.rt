@@ -21,6 +21,7 @@ pub struct Parts<'a> {
     pub rows: &'a [NodeSet],
     pub final_node: NodeNo,
     pub arcs: &'a [Move<StateNo>],
+    pub ghost few: { (length rows.now ≤ 1024) × (length arcs.now ≤ 16384) },
 }
 
 /// The byte of a state: 1 where the final node is in its set.
@@ -40,11 +41,10 @@ fn put_finals(out: &mut Output, rows: &[NodeSet], final_node: NodeNo)
     }
 }
 
-// The layouts of the two kinds differ after the front, and what both share stands in `fields`.
+// The layouts of the two kinds differ after the front; what both share stands in `fields`, but for the comparison of a length in each.
 
 /// The numbers in front of the states.
 fn header_of(parts: Parts) -> [u16; 4]
-    requires { (length parts.rows.now ≤ 1024) × (length parts.arcs.now ≤ 16384) }
     ensures { result ≡ 1 ∷ (parts.entry.words ∷ (length parts.entry.rows.now ∷ (length parts.entry.arcs.now ∷ []))) }
 {
     [
@@ -57,7 +57,6 @@ fn header_of(parts: Parts) -> [u16; 4]
 
 /// Writes the file of a determinised acceptor; the length used.
 pub fn write(parts: Parts, out: &mut [u8]) -> Result<usize, OutputShort>
-    requires { (length parts.rows.now ≤ 1024) × (length parts.arcs.now ≤ 16384) }
     ensures { Written
         (determined parts.entry.words parts.entry.rows.now parts.entry.final_node parts.entry.arcs.now)
         out.old result out.new }

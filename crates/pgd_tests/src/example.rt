@@ -16,6 +16,8 @@ pub const ARCS: [(u16, u16, u16); 4] = [(0, 0, 1), (1, 0, 1), (1, 1, 2), (2, 1, 
 /// The sets of nodes of its states; the final node is 2.
 pub const SETS: [[u16; 3]; 3] = [[0, 2, 2], [1, 3, 3], [2, 3, 4]];
 
+// Beside the other kind's tests, which number nodes: a crate for both would be longer.
+
 /// The arc of these numbers.
 pub fn arc_of((from, symbol, to): (u16, u16, u16)) -> Move<StateNo> {
     Move {

@@ -1,7 +1,7 @@
 -- The room of a pair: what its test says.
 use Rattle.std.proofs.Common.{◌≡◌, ◌<◌, Bool, true, false, ltb, ◌⊎◌, List, [], ◌∷◌, ◌++◌, map, length, sym, refl, subst, inl, inr, ⊎_elim}
 use mathlib.Core.List.{Memᴰ}
-use Rattle.std.proofs.lemmas.Bool.{lt-ltb, ltb-true, both_ways}
+use Rattle.std.proofs.lemmas.Bool.{cases_Bool, lt-ltb, ltb-true, both_ways}
 use Rattle.finding.specs.Numbered.{Firsts}
 use Rattle.finding.specs.Numbered.Firsts.{nil, old, new}
 use Rattle.finding.proofs.Unique.{firsts_same}
@@ -10,12 +10,12 @@ use Rattle.theory.specs.Lists.{and, any}
 use Rattle.theory.specs.Policies.{Class, left_class, right_class}
 use Rattle.theory.specs.Unfolding.{node}
 use Rattle.theory.proofs.Building.{class_equal, node_tells}
-use Rattle.theory.proofs.Lists.{true_or_false, and_is, and_only, or_left, or_right, or_cases, any_mem, mem_any}
+use Rattle.theory.proofs.Lists.{and_is, and_only, or_left, or_right, or_cases, any_mem, mem_any}
 use Rattle.policy.specs.Classes.{Room, HasRoom, HasPlace}
 use Rattle.policies.specs.Pairs.{first_classes, has_place, pair_room}
 
 class_itself : (c : Class) → same_class c c ≡ true
-class_itself c = ⊎_elim (λ e. e) (λ e. absurd (node_tells.no_if (node 0 c) (node 0 c) e refl)) (true_or_false (same_class c c))
+class_itself c = ⊎_elim (λ e. e) (λ e. absurd (node_tells.no_if (node 0 c) (node 0 c) e refl)) (cases_Bool (same_class c c))
 
 seen_mem : (c : Class) (seen : List Class) → any (same_class c) seen ≡ true → Memᴰ c seen
 seen_mem c seen e = let (d, m, q) = any_mem (same_class c) seen e in subst (λ (x : Class). Memᴰ x seen) (sym (class_equal c d q)) m
@@ -30,7 +30,7 @@ firsts_of (c ∷ cs) seen =
     ⊎_elim
     (λ (e : any (same_class c) seen ≡ true). rw (e, first_classes) (old (seen_mem c seen e) (firsts_of cs seen)))
     (λ (e : any (same_class c) seen ≡ false). rw (e, first_classes) (new (λ m. both_ways (any (same_class c) seen) e (mem_seen c seen m)) (firsts_of cs (seen ++ (c ∷ [])))))
-    (true_or_false (any (same_class c) seen))
+    (cases_Bool (any (same_class c) seen))
 
 module _ (room : Room) (classes : List Class) (c : Class) where
   abbrev held : List Class

@@ -23,7 +23,7 @@ pub enum Depth {
 }
 
 /// The last states left, the newest first.
-// A variant for each length: in an array with a count, what stands past the count would tell equal lists apart.
+// A variant for each length: in an array with a count, what stands past the count would tell equal lists apart, and an array of options would have lists with gaps.
 #[derive(Clone, Copy, PartialEq, Eq, Debug)]
 pub enum Lefts {
     Zero,
@@ -38,7 +38,7 @@ impl Lefts {
     fn after(self, s: StateNo, depth: Depth) -> Lefts
         ensures { lefts result ≡ take (depth_of depth) (s.0 ∷ lefts self) }
     {
-        // A local: a match on the pair as it is written gets no proof.
+        // A local: a match with alternatives on the pair as it is written gets no proof.
         let kept = (depth, self);
         match kept {
             (Depth::One, _) | (_, Lefts::Zero) => Lefts::One(s),

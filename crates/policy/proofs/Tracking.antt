@@ -55,10 +55,6 @@ module _ (room : Room) (cs : List Class) (onward : Class → Class) (i : ℕ) (d
   refused (unheld h) = let b = stands_below cs i c at in absurd (omega arith)
   refused (no_place x s l f) = (subst (Lacks cs) (one_at s) l, (λ g. f (subst (HasRoom room cs) (sym (one_at s)) g)), refl)
 
-pub none_taken : {room : Room} {cs : List Class} {onward : Class → Class} {i : ℕ} {cs' : List Class} → Taken room cs onward i None cs' → Taken room cs onward i None cs
-none_taken (unheld h) = unheld h
-none_taken (no_place x s l f) = no_place x s l f
-
 pub old_taken : {room : Room} {cs : List Class} {onward : Class → Class} {i : ℕ} {j : ClassNo} {cs' : List Class} → Taken room cs onward i (Some j) cs' → j.0 < length cs → Taken room cs onward i (Some j) cs
 old_taken (old x s t) h = old x s t
 old_taken (new x s l f e) h = absurd (omega arith)
@@ -119,4 +115,4 @@ tracks_first {E} number c e q =
   where
     below : (k : ℕ) (u : E) → StandsAt (e ∷ []) k u → number u < 1
     below zero u s = let w : e ≡ u = cc in subst (λ (x : E). number x < 1) w (omega arith)
-    below (suc k) u s = let z : ◌≡◌ {A = ℕ} 0 1 = cc in absurd (omega arith)
+    below (suc k) u s = absurd cc

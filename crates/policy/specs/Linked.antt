@@ -5,11 +5,11 @@ use Rattle.std.proofs.Math.Option.{some}
 use mathlib.Core.List.Memᴰ
 use mathlib.Core.List.{Memᴰ}
 use Rattle.std.proofs.lemmas.List.{length_push}
+use Rattle.std.proofs.lemmas.Bool.{cases_Bool}
 use Rattle.table.specs.Lists.{StandsAt, Distinct}
 use Rattle.table.specs.declared.numbers.ClassNo.{ClassNo}
 use Rattle.table.proofs.Lists.{stands_below, stands_same, stands_is, stands_getD, stands_left, stands_last, at_mem}
 use Rattle.theory.specs.Policies.{cut_after}
-use Rattle.theory.proofs.Lists.{true_or_false}
 use Rattle.policy.specs.declared.path.Link.{Link}
 use Rattle.policy.specs.Paths.{link, along, grown, paths, Chained, Met}
 
@@ -27,7 +27,7 @@ cut_new [] t n = refl
 cut_new (s ∷ ss) t n =
     ⊎_elim (λ e. absurd (n (Memᴰ.head (sym (eqb-true s t e)))))
     (λ e. cut_miss s t ss e ∙ ap (λ l. s ∷ l) (cut_new ss t (λ m. n (Memᴰ.tail m))))
-    (true_or_false (s == t))
+    (cases_Bool (s == t))
 
 -- at the end of the list nothing is cut
 pub cut_end : (ss : List ℕ) (t : ℕ) → (Memᴰ t ss → ⊥) → cut_after (ss ++ (t ∷ [])) t ≡ ss ++ (t ∷ [])
@@ -35,7 +35,7 @@ cut_end [] t n = cut_hit t t [] (eq-eqb t t refl)
 cut_end (s ∷ ss) t n =
     ⊎_elim (λ e. absurd (n (Memᴰ.head (sym (eqb-true s t e)))))
     (λ e. cut_miss s t (ss ++ (t ∷ [])) e ∙ ap (λ l. s ∷ l) (cut_end ss t (λ m. n (Memᴰ.tail m))))
-    (true_or_false (s == t))
+    (cases_Bool (s == t))
 
 -- what stands after the state is cut
 pub cut_early : (ss : List ℕ) (s t : ℕ) → Memᴰ t ss → cut_after (ss ++ (s ∷ [])) t ≡ cut_after ss t
@@ -43,7 +43,7 @@ cut_early [] s t m = absurd (Memᴰ.not-nil m)
 cut_early (u ∷ ss) s t m =
     ⊎_elim (λ e. cut_hit u t (ss ++ (s ∷ [])) e ∙ sym (cut_hit u t ss e))
     (λ e. cut_miss u t (ss ++ (s ∷ [])) e ∙ ap (λ l. u ∷ l) (cut_early ss s t (later e)) ∙ sym (cut_miss u t ss e))
-    (true_or_false (u == t))
+    (cases_Bool (u == t))
   where
     later : nat_eq u t ≡ false → Memᴰ t ss
     later e =
@@ -81,7 +81,7 @@ grown_keeps before [] k ss s = s
 grown_keeps before (l ∷ ls) k ss s = grown_keeps (before ++ (along before l ∷ [])) ls k ss (stands_left before (along before l ∷ []) ss k s)
 
 grown_at : (before : List (List ℕ)) (ls : List Link) (k n : ℕ) (l : Link) → StandsAt ls k l → n ≡ length before + k → l.back.0 < n → StandsAt (grown before ls) n (along (grown before ls) l)
-grown_at before [] k n l s e b = let z : ◌≡◌ {A = ℕ} 0 1 = cc in absurd (omega arith)
+grown_at before [] k n l s e b = absurd cc
 grown_at before (h ∷ ls) zero n l s e b =
     let q : h ≡ l = cc in
     let m : n ≡ length before = omega arith in
@@ -108,7 +108,7 @@ module _ (ls : List Link) (c : Chained ls) where
   root_path = go ls c.root
     where
       go : (ls : List Link) → StandsAt ls 0 (link 0 0) → StandsAt (paths ls) 0 (0 ∷ [])
-      go [] h = let z : ◌≡◌ {A = ℕ} 0 1 = cc in absurd (omega arith)
+      go [] h = absurd cc
       go (l ∷ ls) h =
           let q : l ≡ link 0 0 = cc in
           let e : along [] l ≡ 0 ∷ [] = ap (along []) q in

@@ -1,12 +1,12 @@
 -- What is taken is settled by the classes held: asking foretells it.
 use Rattle.std.specs.Prelude.{◌≡◌, ℕ, ◌≤◌, List, [], ◌∷◌, ◌++◌, length, Some, None, Option, refl}
 use Rattle.std.proofs.Common.{sym, ap, subst, ◌∙◌, arith}
-use Rattle.std.proofs.lemmas.Bool.{false≢true, lt-ltb, ltb-true}
+use Rattle.std.proofs.lemmas.Bool.{lt-ltb, ltb-true}
 use Rattle.table.specs.Lists.{StandsAt, Lacks, Distinct}
 use Rattle.table.specs.declared.numbers.ClassNo.{ClassNo}
 use Rattle.table.proofs.Lists.{stands_below, stands_same}
 use Rattle.theory.specs.Policies.{Class}
-use Rattle.policy.specs.Classes.{Room, HasRoom, free_place, no_room, Taken, Foretold}
+use Rattle.policy.specs.Classes.{Room, HasRoom, free_place, Taken, Foretold}
 use Rattle.policy.specs.Classes.Taken.{old, new, unheld, no_place}
 use Rattle.policy.specs.Places.{Placed}
 use Rattle.policy.specs.Places.Placed.{old as p_old, new as p_new, full as p_full}
@@ -52,13 +52,6 @@ none_kept (no_place c s l f) = refl
 pub foretold : (room : Room) (held : List Class) → Distinct held → Foretold room held
 foretold room held d =
     record { same = λ onward i r r' h f t. (taken_same held onward i d f.1 t).0; kept = λ onward i h t. none_kept t }
-
--- where no new class has a place, nothing is taken
-pub none_new : {held : List Class} {onward : Class → Class} {i : ℕ} {r : Option ClassNo} {h : List Class} → Taken no_room held onward i r h → Taken no_room held onward i r held
-none_new (old c s a) = old c s a
-none_new (new c s l f q) = absurd (false≢true f)
-none_new (unheld p) = unheld p
-none_new (no_place c s l f) = no_place c s l f
 
 -- where entries stand for classes, one for each, and e for the class after the one at i: as e is found or added, that class is taken
 module _ {E : Type 0} (of : List E → List Class) (es : List E) (e : E) (onward : Class → Class) (i : ℕ) {c : Class} (here : StandsAt (of es) i c)

@@ -50,7 +50,8 @@ impl Path {
         ensures { LinkAfter (entries self.now.links) class.0 reached.0 result }
     {
         let mut at = class;
-        // Links name one another by number: they lie in fixed memory, and a class is told by its number.
+        // A loop from link to link: the library's `successors` says nothing of when its walk ends. Each link tells the next by number, since links lie in fixed
+        // memory and a class is a number.
         loop {
             let link = self.links.get(at)?;
             if link.state == reached {

@@ -1,5 +1,5 @@
 -- Bytes are the file of one acceptor of a kind at most, and no bytes are the file of none.
-use Rattle.std.proofs.Common.{◌≡◌, ℕ, List, [], sym, ap, ◌∙◌, arith}
+use Rattle.std.proofs.Common.{◌≡◌, ℕ, List, [], sym, ap, ◌∙◌}
 use Rattle.pga.proofs.Decoding.{file_one as pga_one}
 use Rattle.pgd.proofs.Decoding.{file_one as pgd_one}
 use Rattle.promise.specs.Acceptors.{Kind, Automaton, IsFileOf}
@@ -8,8 +8,8 @@ use Rattle.promise.specs.Acceptors.IsFileOf.{is_pga, is_pgd}
 
 -- no bytes are no file
 pub no_bytes : {k : Kind} {bytes : List ℕ} {a : Automaton} → IsFileOf k bytes a → bytes ≡ [] → ⊥
-no_bytes (is_pga h) e = let z = sym h.is ∙ e in let y : ◌≡◌ {A = ℕ} 0 1 = cc in omega arith
-no_bytes (is_pgd h) e = let z = sym h.is ∙ e in let y : ◌≡◌ {A = ℕ} 0 1 = cc in omega arith
+no_bytes (is_pga h) e = let z = sym h.is ∙ e in cc
+no_bytes (is_pgd h) e = let z = sym h.is ∙ e in cc
 
 -- bytes are the file of one acceptor of a kind
 pub same_file : {k : Kind} {bytes : List ℕ} {a b : Automaton} → IsFileOf k bytes a → IsFileOf k bytes b → a ≡ b

@@ -1,8 +1,8 @@
 -- Each call leaves the state as the tally with it says.
-use Rattle.std.proofs.Common.{◌≡◌, ℕ, true, List, length, take, Ok, Err, Result, sym, refl, ap, ◌∙◌, subst}
+use Rattle.std.proofs.Common.{◌≡◌, ℕ, true, false, List, map, length, take, Ok, Err, Result, sym, refl, ap, ◌∙◌, subst}
 use mathlib.Core.Option.{Option, some}
 use Rattle.book.specs.declared.fault.BookFault.{BookFault}
-use Rattle.book.specs.Grammar.{Rule, rule, Grammar}
+use Rattle.book.specs.Grammar.{rule, Grammar}
 use Rattle.book.specs.Edits.{AddedOr}
 use Rattle.theory.specs.Policies.{Meaning}
 use Rattle.theory.specs.Flattening.{Acceptor, Flattened}
@@ -17,7 +17,7 @@ use Rattle.promise.specs.Acceptors.Automaton.{flat}
 use Rattle.promise.specs.Acceptors.IsFileOf.{is_pga}
 use Rattle.promise.specs.Acceptors.Made.{compiled as made_pga}
 use Rattle.promise.specs.Positions.{Position, first_position, next_position}
-use Rattle.promise.specs.States.{Slot, file, Turn, State, with_book, taken, retired, open_slot, with_turn, standing}
+use Rattle.promise.specs.States.{Slot, file, Turn, State, slot_of, with_book, taken, retired, open_slot, with_turn, standing}
 use Rattle.promise.specs.Calls.{CompileTables, SubsetTables, Call, Answer, add_answer, compile_answer, determinise_answer, compiled_length, determinised_length}
 use Rattle.promise.specs.Calls.Call.{add, compile, determinise}
 use Rattle.promise.specs.Steps.{Compiles, Determinises, InUse, Step}
@@ -31,7 +31,7 @@ use Rattle.promise.proofs.Lists.{each_map, each_weaker, each_push}
 use Rattle.promise.proofs.Positions.{one_further}
 use Rattle.promise.proofs.Books.{table_holds, added_fit, added_table}
 use Rattle.promise.proofs.Filling.{compiled_filled, determinised_filled}
-use Rattle.promise.proofs.Turns.{Known, known, known_under, heard, same_turn, same_notes, retired_tally, retired_turn, each_change}
+use Rattle.promise.proofs.Turns.{filled_of, Known, known, known_under, heard, same_turn, same_notes, retired_tally, retired_turn, each_change}
 
 -- what is made as a PGA is flattened
 pub made_flat : {g : Grammar} {m : Meaning} {f : Acceptor} → Made g m pga (flat f) → Flattened g m f
@@ -40,62 +40,53 @@ made_flat (made_pga h) = h
 module _ (o : Start) (y : Tally) {s : State} (l : LeftAs o y s) where
   -- ── add ──
 
-  left_add : (r : Rule) (res : Result ℕ BookFault) (table : List ℕ) → AddedOr (book_table o y) r res table
-      → LeftAs o (tallied (add_answer res) (add r.left r.right) y) (with_book table s)
-  left_add r (Ok n) table h =
+  left_add : (left : ℕ) (right : List ℕ) (r : Result ℕ BookFault) (table : List ℕ) → AddedOr (book_table o y) (rule left right) r table
+      → LeftAs o (tallied (add_answer r) (add left right) y) (with_book table s)
+  left_add left right (Ok n) table h =
       record {
-        book = added_table o.table y.grammar l.fit r h;
-        fit = added_fit o.table y.grammar l.fit r h;
+        book = added_table o.table y.grammar l.fit (rule left right) h;
+        fit = added_fit o.table y.grammar l.fit (rule left right) h;
         pga = l.pga;
         pgd = l.pgd;
         places = l.places;
         turns = each_weaker (same_turn (λ k. refl)) l.turns;
       }
-  left_add r (Err f) table (h, e) = record { book = e; fit = l.fit; pga = l.pga; pgd = l.pgd; places = l.places; turns = l.turns }
+  left_add left right (Err f) table (h, e) = record { book = e; fit = l.fit; pga = l.pga; pgd = l.pgd; places = l.places; turns = l.turns }
 
   -- ── a file is written ──
 
-  left_taken_pga : (n : Option Note) (bytes : List ℕ) (used : ℕ) → length bytes ≡ length s.pga.bytes → Filled pga n (take used bytes)
-      → LeftAs o (noted pga n y) (taken pga bytes used s)
-  left_taken_pga n bytes used long f =
-      record {
-        book = l.book;
-        fit = l.fit;
-        pga = record { as_long = long ∙ l.pga.as_long; opened = refl; filled = f };
-        pgd = l.pgd;
-        places = l.places;
-        turns = each_map (retired_tally pga) (retired pga) (retired_turn pga n y) l.turns;
-      }
+  slot_written : {k : Kind} {lent bytes : List ℕ} {used : ℕ} {n : Option Note} {t : FileTally} {c : Slot} → SlotAs k lent t c → length bytes ≡ length c.bytes
+      → Filled k n (take used bytes) → SlotAs k lent (record { note = n; opened = false }) (record { bytes = bytes; used = used; opened = false })
+  slot_written h long f = record { as_long = long ∙ h.as_long; opened = refl; filled = f }
 
-  left_taken_pgd : (n : Option Note) (bytes : List ℕ) (used : ℕ) → length bytes ≡ length s.pgd.bytes → Filled pgd n (take used bytes)
-      → LeftAs o (noted pgd n y) (taken pgd bytes used s)
-  left_taken_pgd n bytes used long f =
-      record {
-        book = l.book;
-        fit = l.fit;
-        pga = l.pga;
-        pgd = record { as_long = long ∙ l.pgd.as_long; opened = refl; filled = f };
-        places = l.places;
-        turns = each_map (retired_tally pgd) (retired pgd) (retired_turn pgd n y) l.turns;
-      }
+  turns_retired : (k : Kind) (n : Option Note) → Each (TurnAs (noted k n y)) (noted k n y).turns (map (retired k) s.turns)
+  turns_retired k n = each_map (retired_tally k) (retired k) (retired_turn k n y) l.turns
 
-  left_compile : {m : Meaning} {room : Room} {t : CompileTables} (r : Result Counts CompileFault) (bytes : List ℕ)
+  left_taken : (k : Kind) (n : Option Note) (bytes : List ℕ) (used : ℕ) → length bytes ≡ length (slot_of s k).bytes → Filled k n (take used bytes)
+      → LeftAs o (noted k n y) (taken k bytes used s)
+  left_taken pga n bytes used long f =
+      record { book = l.book; fit = l.fit; pga = slot_written l.pga long f; pgd = l.pgd; turns = turns_retired pga n; places = l.places }
+  left_taken pgd n bytes used long f =
+      record { book = l.book; fit = l.fit; pga = l.pga; pgd = slot_written l.pgd long f; turns = turns_retired pgd n; places = l.places }
+
+  -- a refused call took the file and left its bytes
+  left_refused : (k : Kind) {bytes : List ℕ} → bytes ≡ (slot_of s k).bytes → LeftAs o (noted k (note_of y k) y) (taken k bytes (slot_of s k).used s)
+  left_refused k e = left_taken k _ _ _ (ap length e) (subst (λ b. Filled k (note_of y k) (take (slot_of s k).used b)) (sym e) (filled_of l k))
+
+  left_compile : {m : Meaning} {room : Room} {t : CompileTables} (r : Result Counts CompileFault) {bytes : List ℕ}
       → Compiles (book_table o y) m room t s.pga.bytes r bytes
       → LeftAs o (tallied (compile_answer r) (compile m room t) y) (taken pga bytes (compiled_length r s.pga.used) s)
-  left_compile (Ok c) bytes h = left_taken_pga _ bytes _ h.length_kept (compiled_filled y.grammar (table_holds o.table y.grammar l.fit) h.is)
-  left_compile (Err f) bytes h =
-      left_taken_pga _ bytes _ h.length_kept (subst (λ b. Filled pga y.pga.note (take s.pga.used b)) (sym h.is.1) l.pga.filled)
+  left_compile (Ok c) h = left_taken pga _ _ _ h.length_kept (compiled_filled y.grammar (table_holds o.table y.grammar l.fit) h.is)
+  left_compile (Err f) h = left_refused pga h.is.1
 
-  left_determinise : {t : SubsetTables} (r : Result SubsetCounts DeterminiseFault) (bytes : List ℕ) → Determinises (file s.pga) t s.pgd.bytes r bytes
+  left_determinise : {t : SubsetTables} (r : Result SubsetCounts DeterminiseFault) {bytes : List ℕ} → Determinises (file s.pga) t s.pgd.bytes r bytes
       → LeftAs o (tallied (determinise_answer r) (determinise t) y) (taken pgd bytes (determinised_length r s.pgd.used) s)
-  left_determinise (Ok c) bytes h =
+  left_determinise (Ok c) {bytes} h =
       let (f, is, d) = h.is in
       let k = known l.pga.filled (is_pga is) in
-      left_taken_pgd _ bytes _ h.length_kept
-      (subst (λ n. Filled pgd n (take (determinised_length (Ok c) s.pgd.used) bytes)) (sym k.noted)
-      (determinised_filled d k.note k.fit (made_flat k.made)))
-  left_determinise (Err f) bytes h =
-      left_taken_pgd _ bytes _ h.length_kept (subst (λ b. Filled pgd y.pgd.note (take s.pgd.used b)) (sym h.is.1) l.pgd.filled)
+      left_taken pgd _ _ _ h.length_kept
+      (subst (λ n. Filled pgd n (take (determinised_length (Ok c) s.pgd.used) bytes)) (sym k.noted) (determinised_filled d k.note k.fit (made_flat k.made)))
+  left_determinise (Err f) h = left_refused pgd h.is.1
 
   -- ── a turn more ──
 
@@ -140,24 +131,21 @@ module _ (o : Start) (y : Tally) {s : State} (l : LeftAs o y s) where
 
   -- ── every call ──
 
+  there : {z : Tally} {t u : State} → u ≡ t → LeftAs o z t → LeftAs o z u
+  there {z} e k = subst (LeftAs o z) (sym e) k
+
   pub left_step : {c : Call} {a : Answer} {s' : State} → Step s c a s' → LeftAs o (tallied a c y) s'
-  left_step (added {left = left} {right = right} r table h e) =
-      subst (LeftAs o (tallied (add_answer r) (add left right) y)) (sym e)
-      (left_add (rule left right) r table (subst (λ b. AddedOr b (rule left right) r table) l.book h))
-  left_step (compiled {m = m} {room = room} {t = t} r bytes h e) =
-      subst (LeftAs o (tallied (compile_answer r) (compile m room t) y)) (sym e)
-      (left_compile r bytes (subst (λ b. Compiles b m room t s.pga.bytes r bytes) l.book h))
-  left_step (determinised {t = t} r bytes is_open h e) =
-      subst (LeftAs o (tallied (determinise_answer r) (determinise t) y)) (sym e) (left_determinise r bytes h)
-  left_step (none_open h e) = subst (LeftAs o y) (sym e) l
-  left_step (opened {k = k} a h room e) = subst (LeftAs o (turn_added k y)) (sym e) (left_open k)
-  left_step (no_file h e) = subst (LeftAs o y) (sym e) l
-  left_step (no_place a h room e) = subst (LeftAs o y) (sym e) l
-  left_step (begun {i = i} u a h e) = subst (LeftAs o (with_turns (change_words i no_words y.turns) y)) (sym e) (left_first h)
-  left_step (took {i = i} {x = x} u a p h at_p known-word e) =
-      subst (LeftAs o (with_turns (change_words i (one_more x) y.turns) y)) (sym e) (left_word x h at_p)
-  left_step (ended {i = i} u a p h at_p is e) = subst (LeftAs o (with_turns (change_words i no_words y.turns) y)) (sym e) (left_first h)
-  left_step (word_unbegun u a h at_none e) = subst (LeftAs o y) (sym e) l
-  left_step (end_unbegun u a h at_none e) = subst (LeftAs o y) (sym e) l
-  left_step (word_unknown u a p h at_p high e) = subst (LeftAs o y) (sym e) l
-  left_step (turn_unusable on h e) = subst (LeftAs o y) (sym e) l
+  left_step (added {left = left} {right = right} r table h e) = there e (left_add left right r table (subst (λ b. AddedOr b (rule left right) r table) l.book h))
+  left_step (compiled {m = m} {room = room} {t = t} r bytes h e) = there e (left_compile r (subst (λ b. Compiles b m room t s.pga.bytes r bytes) l.book h))
+  left_step (determinised r bytes is_open h e) = there e (left_determinise r h)
+  left_step (none_open h e) = there e l
+  left_step (opened {k = k} a h room e) = there e (left_open k)
+  left_step (no_file h e) = there e l
+  left_step (no_place a h room e) = there e l
+  left_step (begun u a h e) = there e (left_first h)
+  left_step (took {x = x} u a p h at_p known-word e) = there e (left_word x h at_p)
+  left_step (ended u a p h at_p is e) = there e (left_first h)
+  left_step (word_unbegun u a h at_none e) = there e l
+  left_step (end_unbegun u a h at_none e) = there e l
+  left_step (word_unknown u a p h at_p high e) = there e l
+  left_step (turn_unusable on h e) = there e l

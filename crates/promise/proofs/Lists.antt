@@ -2,21 +2,21 @@
 use Rattle.std.proofs.Common.{◌≡◌, ℕ, zero, suc, List, [], ◌∷◌, ◌++◌, map, length, refl, ap, subst}
 use mathlib.Core.Option.{some}
 use lib.ListN.{get_elem?}
-use Rattle.theory.proofs.Lists.{some_one, none_some}
+use Rattle.theory.proofs.Lists.{some_one}
 use Rattle.promise.specs.Leaving.{Each}
 use Rattle.promise.specs.Leaving.Each.{no_more, more}
 
 -- what stands at a place of the second list has its partner in the first
 pub partner : {A B : Type 0} {R : A → B → Type 0} {xs : List A} {ys : List B} → Each R xs ys → (i : ℕ) {b : B} → get_elem? ys i ≡ some b
     → (a : A) × (get_elem? xs i ≡ some a) × R a b
-partner no_more i e = absurd (none_some refl e)
+partner no_more i e = absurd cc
 partner {R = R} (more {a = a} r k) zero e = (a, refl, subst (R a) (some_one refl e) r)
 partner (more r k) (suc i) e = partner k i e
 
 -- and the other way round
 pub mate : {A B : Type 0} {R : A → B → Type 0} {xs : List A} {ys : List B} → Each R xs ys → (i : ℕ) {a : A} → get_elem? xs i ≡ some a
     → (b : B) × (get_elem? ys i ≡ some b) × R a b
-mate no_more i e = absurd (none_some refl e)
+mate no_more i e = absurd cc
 mate {R = R} (more {b = b} r k) zero e = (b, refl, subst (λ x. R x b) (some_one refl e) r)
 mate (more r k) (suc i) e = mate k i e
 

@@ -21,7 +21,7 @@ use Rattle.promise.specs.Steps.Step.{added, compiled, determinised, none_open, o
 use Rattle.promise.specs.Steps.Step.{word_unbegun, end_unbegun, word_unknown, turn_unusable}
 use Rattle.promise.specs.Histories.{Start, empty_slot, Fresh, SlotInOrder, InOrder}
 use Rattle.promise.proofs.Filling.{compiled_fits, determinised_fits}
-use Rattle.promise.proofs.Turns.{not_true, was_live}
+use Rattle.promise.proofs.Turns.{was_live}
 
 -- what stands in a list after one place was set
 set_stands : {A : Type 0} (ts : List A) (i j : ℕ) (v u : A) → get_elem? (set ts i v) j ≡ some u → (get_elem? ts j ≡ some u) ⊎ ((j ≡ i) × (v ≡ u))
@@ -34,7 +34,7 @@ set_stands (t ∷ ts) (suc i) (suc j) v u e = ⊎_elim inl (λ h. inr (ap suc h.
 -- ── the start ──
 
 empty_in_order : (k : Kind) (bytes : List ℕ) → SlotInOrder k (empty_slot bytes)
-empty_in_order k bytes = record { within = omega arith; is_file = λ e. not_true e }
+empty_in_order k bytes = record { within = omega arith; is_file = λ e. absurd cc }
 
 pub start_in_order : (o : Start) (s : State) → Fresh o s → InOrder s
 start_in_order o s f =
@@ -49,15 +49,15 @@ module _ {s : State} (io : InOrder s) where
   -- ── a file is written ──
 
   closed : (k : Kind) {bytes : List ℕ} {used : ℕ} → used ≤ length bytes → SlotInOrder k (record { bytes = bytes; used = used; opened = false })
-  closed k h = record { within = h; is_file = λ e. not_true e }
+  closed k h = record { within = h; is_file = λ e. absurd cc }
 
   -- the turns that stay in use are on the other file
   other_open : (k j : Kind) (bytes : List ℕ) (used : ℕ) (b : Bool) → stays_live k j b ≡ true → (slot_of s j).opened ≡ true
       → (slot_of (taken k bytes used s) j).opened ≡ true
-  other_open pga pga bytes used b e h = not_true e
+  other_open pga pga bytes used b e h = absurd cc
   other_open pga pgd bytes used b e h = h
   other_open pgd pga bytes used b e h = h
-  other_open pgd pgd bytes used b e h = not_true e
+  other_open pgd pgd bytes used b e h = absurd cc
 
   turns_taken : (k : Kind) (bytes : List ℕ) (used : ℕ) (i : ℕ) (u : Turn) → get_elem? (taken k bytes used s).turns i ≡ some u → u.live ≡ true
       → (slot_of (taken k bytes used s) u.kind).opened ≡ true
@@ -70,11 +70,9 @@ module _ {s : State} (io : InOrder s) where
   few_taken : (k : Kind) (bytes : List ℕ) (used : ℕ) → length (taken k bytes used s).turns ≤ s.places
   few_taken k bytes used = let h = io.few in omega (arith, length-map s.turns (retired k))
 
-  taken_pga : (bytes : List ℕ) (used : ℕ) → used ≤ length bytes → InOrder (taken pga bytes used s)
-  taken_pga bytes used h = record { pga = closed pga h; pgd = io.pgd; turns = turns_taken pga bytes used; few = few_taken pga bytes used }
-
-  taken_pgd : (bytes : List ℕ) (used : ℕ) → used ≤ length bytes → InOrder (taken pgd bytes used s)
-  taken_pgd bytes used h = record { pga = io.pga; pgd = closed pgd h; turns = turns_taken pgd bytes used; few = few_taken pgd bytes used }
+  taken_in_order : (k : Kind) (bytes : List ℕ) (used : ℕ) → used ≤ length bytes → InOrder (taken k bytes used s)
+  taken_in_order pga bytes used h = record { pga = closed pga h; pgd = io.pgd; turns = turns_taken pga bytes used; few = few_taken pga bytes used }
+  taken_in_order pgd bytes used h = record { pga = io.pga; pgd = closed pgd h; turns = turns_taken pgd bytes used; few = few_taken pgd bytes used }
 
   compile_fits : {book : List ℕ} {m : Meaning} {room : Room} {t : CompileTables} (r : Result Counts CompileFault) {bytes : List ℕ}
       → Compiles book m room t s.pga.bytes r bytes → compiled_length r s.pga.used ≤ length bytes
@@ -134,8 +132,8 @@ module _ {s : State} (io : InOrder s) where
 
   pub step_in_order : {c : Call} {a : Answer} {s' : State} → Step s c a s' → InOrder s'
   step_in_order (added r table h e) = subst InOrder (sym e) (record { pga = io.pga; pgd = io.pgd; turns = io.turns; few = io.few })
-  step_in_order (compiled r bytes h e) = subst InOrder (sym e) (taken_pga bytes _ (compile_fits r h))
-  step_in_order (determinised r bytes is_open h e) = subst InOrder (sym e) (taken_pgd bytes _ (determinise_fits r h))
+  step_in_order (compiled r bytes h e) = subst InOrder (sym e) (taken_in_order pga bytes _ (compile_fits r h))
+  step_in_order (determinised r bytes is_open h e) = subst InOrder (sym e) (taken_in_order pgd bytes _ (determinise_fits r h))
   step_in_order (none_open h e) = subst InOrder (sym e) io
   step_in_order (opened {k = k} a h room e) = subst InOrder (sym e) (open_turn k h room)
   step_in_order (no_file h e) = subst InOrder (sym e) io

@@ -1,5 +1,5 @@
 -- Where words lead, and what the end question says there.
-use Rattle.std.proofs.Common.{◌≡◌, ℕ, zero, suc, Bool, true, false, ◌↔◌, List, [], ◌∷◌, ◌++◌, get_or, sym, refl, ap, ◌∙◌, subst, arith}
+use Rattle.std.proofs.Common.{◌≡◌, ℕ, zero, suc, Bool, true, false, ◌↔◌, List, [], ◌∷◌, ◌++◌, get_or, sym, refl, ap, ◌∙◌, subst}
 use mathlib.Core.Option.{Option, none, some}
 use mathlib.Core.List.{Memᴰ}
 use lib.ListN.{get_elem?}
@@ -65,14 +65,15 @@ leads_run : (d : Determined) → ((q x p r : ℕ) → Memᴰ (q, x, p) d.arcs �
 leads_run d one here = refl
 leads_run d one (on {xs = w} m l) = ap (λ o. run d o w) (along_is d.arcs one m) ∙ leads_run d one l
 
-getD_true : (bs : List Bool) (i : ℕ) → get_or bs i false ≡ true → get_elem? bs i ≡ some true
-getD_true [] i e = let z : ◌≡◌ {A = ℕ} 0 1 = cc in absurd (omega arith)
-getD_true (b ∷ bs) zero e = ap some e
-getD_true (b ∷ bs) (suc i) e = getD_true bs i e
+-- what reads as true stands there
+pub true_stands : (bs : List Bool) (i : ℕ) → get_or bs i false ≡ true → get_elem? bs i ≡ some true
+true_stands [] i e = absurd cc
+true_stands (b ∷ bs) zero e = ap some e
+true_stands (b ∷ bs) (suc i) e = true_stands bs i e
 
 final_state : (d : Determined) (w : List ℕ) (o : Option ℕ) → run d (some 0) w ≡ o → is_final d o ≡ true → DeterminedPasses d w
-final_state d w none e h = let z : ◌≡◌ {A = ℕ} 0 1 = cc in absurd (omega arith)
-final_state d w (some p) e h = record { last = p; leads = run_leads d w 0 e; final = getD_true d.finals p h }
+final_state d w none e h = absurd cc
+final_state d w (some p) e h = record { last = p; leads = run_leads d w 0 e; final = true_stands d.finals p h }
 
 pub subset_says : {f : Acceptor} (d : Determined) → Determinised f d → (w : List ℕ)
     → (says_yes (subset d) (position_after (subset d) w) ≡ true) ↔ DeterminedPasses d w

@@ -1,9 +1,9 @@
 -- Turns by the tally: what is known of a turn in use, and how each call leaves the turns.
-use Rattle.std.proofs.Common.{◌≡◌, ℕ, zero, suc, Bool, true, false, List, set, sym, refl, ap, ◌∙◌, subst, arith}
+use Rattle.std.proofs.Common.{◌≡◌, ℕ, zero, suc, Bool, true, List, set, sym, refl, ap, ◌∙◌, subst}
 use mathlib.Core.Option.{Option, none, some}
 use lib.ListN.{get_elem?}
 use Rattle.book.specs.Tables.{Fit}
-use Rattle.theory.proofs.Lists.{some_one, none_some}
+use Rattle.theory.proofs.Lists.{some_one}
 use Rattle.promise.specs.Acceptors.{Kind, Automaton, IsFileOf}
 use Rattle.promise.specs.Acceptors.Kind.{pga, pgd}
 use Rattle.promise.specs.Positions.{Position, position_after}
@@ -19,9 +19,6 @@ use Rattle.promise.specs.Dues.{OnNote}
 use Rattle.promise.proofs.Lists.{partner, each_weaker}
 use Rattle.promise.proofs.Files.{no_bytes, same_file}
 use Rattle.promise.proofs.Verdicts.{made_one}
-
-pub not_true : {A : Type 0} → false ≡ true → A
-not_true e = let z : ◌≡◌ {A = ℕ} 0 1 = cc in absurd (omega arith)
 
 -- ── what is known of a file and of a turn in use ──
 
@@ -75,7 +72,7 @@ pub record Heard (t : TurnTally) (a : Automaton) (p : Position) : Type 0 where
 
 stands_words : {y : Tally} (n : Note) {k : Kind} {a : Automaton} → Fit n.grammar → note_of y k ≡ some n → MadeOf n k a
     → {v : Option (List ℕ)} {q : Option Position} {p : Position} → Stands y k v q → q ≡ some p → (w : List ℕ) × (v ≡ some w) × (p ≡ position_after a w)
-stands_words n fit here made unbegun e = absurd (none_some refl e)
+stands_words n fit here made unbegun e = absurd cc
 stands_words n {k} {a} fit here made (at {w = w} m b there other is) e =
     let same : m ≡ n = some_one there here in
     let one : b ≡ a = made_one n.grammar n.meaning fit (subst (λ x. MadeOf x k b) same other) made in
@@ -89,7 +86,7 @@ heard k r live e =
 
 stands_none : {y : Tally} {k : Kind} {v : Option (List ℕ)} {q : Option Position} → Stands y k v q → q ≡ none → v ≡ none
 stands_none unbegun e = refl
-stands_none (at n a there made is) e = absurd (none_some e refl)
+stands_none (at n a there made is) e = absurd cc
 
 pub unheard : {y : Tally} {i : ℕ} {u : Turn} {a : Automaton} → (k : Seen y i u a) → u.at ≡ none → k.turn.words ≡ none
 unheard k e = stands_none (k.as_told.stands k.on.live) e
@@ -105,17 +102,17 @@ pub same_turn : {y z : Tally} → ((k : Kind) → note_of y k ≡ note_of z k) �
 same_turn e t u h = record { kind = h.kind; live = h.live; stands = λ l. stands_same (e t.kind) (h.stands l) }
 
 pub was_live : (k j : Kind) (b : Bool) → stays_live k j b ≡ true → b ≡ true
-was_live pga pga b e = not_true e
+was_live pga pga b e = absurd cc
 was_live pga pgd b e = e
 was_live pgd pga b e = e
-was_live pgd pgd b e = not_true e
+was_live pgd pgd b e = absurd cc
 
 -- the note of a file whose turns stay in use is the same
 other_note : (k j : Kind) (o : Option Note) (y : Tally) (b : Bool) → stays_live k j b ≡ true → note_of y j ≡ note_of (noted k o y) j
-other_note pga pga o y b e = not_true e
+other_note pga pga o y b e = absurd cc
 other_note pga pgd o y b e = refl
 other_note pgd pga o y b e = refl
-other_note pgd pgd o y b e = not_true e
+other_note pgd pgd o y b e = absurd cc
 
 abbrev pub retired_tally : Kind → TurnTally → TurnTally
 retired_tally k t = record { kind = t.kind; live = stays_live k t.kind t.live; words = t.words }

@@ -1,7 +1,8 @@
 -- A turn told of an event by its acceptor, in the words of positions.
-use Rattle.std.proofs.Common.{◌≡◌, ℕ, zero, suc, ◌<◌, ◌≤◌, Bool, true, false, eqb, List, [], ◌∷◌, get_or, Some, None, Ok, Err, Decides, Option as Maybe, Result, sym, refl, ap, subst, arith, eq-eqb, eqb-true}
+use Rattle.std.proofs.Common.{◌≡◌, ℕ, ◌<◌, ◌≤◌, Bool, true, false, eqb, List, [], get_or, Some, None, Ok, Err, Decides, Option as Maybe, Result, sym, refl, ap, subst, eq-eqb, eqb-true}
 use mathlib.Core.Option.{Option, some}
 use lib.ListN.{get_elem?}
+use Rattle.std.proofs.lemmas.Bool.Decides.{same_from_decides}
 use Rattle.table.specs.declared.numbers.NodeNo.{NodeNo}
 use Rattle.table.specs.declared.numbers.StateNo.{StateNo}
 use Rattle.table.specs.declared.sets.NumberSet.{NumberSet}
@@ -10,7 +11,7 @@ use Rattle.table.proofs.Lists.{stands_is}
 use Rattle.table.proofs.Rows.{members_in, in_members}
 use Rattle.theory.specs.Lists.{any}
 use Rattle.theory.specs.Flattening.{Acceptor, Leads}
-use Rattle.theory.specs.Flattening.Leads.{here}
+use Rattle.theory.specs.Flattening.Leads.{here, on}
 use Rattle.theory.specs.Subsets.{Determined}
 use Rattle.theory.proofs.Lists.{any_mem, mem_any}
 use Rattle.pga.specs.Files.{IsFile as IsPga, Fit as FitPga}
@@ -36,6 +37,7 @@ use Rattle.promise.specs.Acceptors.Automaton.{flat, subset}
 use Rattle.promise.specs.Acceptors.IsFileOf.{is_pga, is_pgd}
 use Rattle.promise.specs.Positions.Position.{nodes, state}
 use Rattle.promise.specs.Positions.{Position, first_position, next_position, next_state, is_final, says_yes}
+use Rattle.promise.proofs.Positions.{true_stands}
 use Rattle.session.specs.View.{set_position, state_in, state_position, position_in}
 use Rattle.session.specs.Hearing.{Hears, Refuses, OfEvent}
 use Rattle.session.specs.Hearing.Hears.{begins, takes, judges}
@@ -43,46 +45,34 @@ use Rattle.session.specs.Hearing.Refuses.{no_word, no_end, unknown}
 
 -- ── the end question ──
 
--- two answers to one question are the same
-same_answer : {P : Type 0} (b t : Bool) → Decides b P → (P → t ≡ true) → (t ≡ true → P) → b ≡ t
-same_answer true t d f g = sym (f (d.0 refl))
-same_answer false true d f g = d.1 (g refl)
-same_answer false false d f g = refl
-
 pub set_end : (f : Acceptor) (p : NumberSet NodeNo) (b : Bool) → Decides b (RestsOf f p.words []) → b ≡ any (eqb f.final) (members p.words)
 set_end f p b d =
-    same_answer b (any (eqb f.final) (members p.words)) d
-    (λ r. mem_any (eqb f.final) (members p.words) (in_members p.words p.row r.0 r.1) (eq-eqb f.final r.0 (sym r.2)))
-    (λ e. let (k, m, t) = any_mem (eqb f.final) (members p.words) e in (k, members_in p.words k m, sym (eqb-true f.final k t)))
-
-got_true : (bs : List Bool) (i : ℕ) → get_elem? bs i ≡ some true → get_or bs i false ≡ true
-got_true bs i e = stands_is bs i true false e
-
-true_got : (bs : List Bool) (i : ℕ) → get_or bs i false ≡ true → get_elem? bs i ≡ some true
-true_got [] i e = let z : ◌≡◌ {A = ℕ} 0 1 = cc in absurd (omega arith)
-true_got (b ∷ bs) zero e = ap some e
-true_got (b ∷ bs) (suc i) e = true_got bs i e
+    same_from_decides b (any (eqb f.final) (members p.words)) d (
+      (λ e. let (k, m, t) = any_mem (eqb f.final) (members p.words) e in (k, members_in p.words k m, sym (eqb-true f.final k t))),
+      (λ r. mem_any (eqb f.final) (members p.words) (in_members p.words p.row r.0 r.1) (eq-eqb f.final r.0 (sym r.2))),
+    )
 
 stays : {arcs : List (ℕ × ℕ × ℕ)} {q p : ℕ} {w : List ℕ} → Leads arcs q w p → w ≡ [] → q ≡ p
 stays here e = refl
-stays (Rattle.theory.specs.Flattening.Leads.on m k) e = let z : ◌≡◌ {A = ℕ} 0 1 = cc in absurd (omega arith)
+stays (on m k) e = absurd cc
 
 pub state_end : (d : Determined) (p : Maybe StateNo) (b : Bool) → Decides b (RestsAt d (number_of p) []) → b ≡ is_final d (state_in p)
-state_end d None b h = same_answer b false h (λ r. absurd r) (λ e. let z : ◌≡◌ {A = ℕ} 0 1 = cc in absurd (omega arith))
+state_end d None b h = same_from_decides b false h ((λ e. absurd cc), (λ r. absurd r))
 state_end d (Some s) b h =
-    same_answer b (get_or d.finals s.0 false) h
-    (λ r. got_true d.finals s.0 (subst (λ n. get_elem? d.finals n ≡ some true) (sym (stays r.1 refl)) r.2))
-    (λ e. (s.0, here, true_got d.finals s.0 e))
+    same_from_decides b (get_or d.finals s.0 false) h (
+      (λ e. (s.0, here, true_stands d.finals s.0 e)),
+      (λ r. stands_is d.finals s.0 true false (subst (λ n. get_elem? d.finals n ≡ some true) (sym (stays r.1 refl)) r.2)),
+    )
 
 -- ── states ──
 
 pub state_first : (p : Maybe StateNo) → number_of p ≡ Some 0 → state_in p ≡ some 0
-state_first None e = let z : ◌≡◌ {A = ℕ} 0 1 = cc in absurd (omega arith)
+state_first None e = absurd cc
 state_first (Some s) e = let z : s.0 ≡ 0 = cc in ap some z
 
 pub state_next : (d : Determined) (p q : Maybe StateNo) (x : ℕ) → Goes d (number_of p) x (number_of q) → state_in q ≡ next_state d (state_in p) x
 state_next d None None x g = refl
-state_next d None (Some t) x g = let z : ◌≡◌ {A = ℕ} 0 1 = cc in absurd (omega arith)
+state_next d None (Some t) x g = absurd cc
 state_next d (Some s) None x g = sym g
 state_next d (Some s) (Some t) x g = sym g
 
@@ -125,17 +115,17 @@ of_event_by runs v (t_judges {verdict = b} d h) = (b, refl)
 
 -- what is told on a view of the file's bytes is what the file's acceptor tells
 module _ {bytes read : List ℕ} (same : read ≡ bytes) where
-  pub pga_hears : (v : Flat) → ((f : Acceptor) → IsPga read f → acceptor_of v ≡ f) → {c c' : Condition (NumberSet NodeNo)} {e : Event} {r : Result Told TurnFault}
+  pub pga_hears : {v : Flat} → ((f : Acceptor) → IsPga read f → acceptor_of v ≡ f) → {c c' : Condition (NumberSet NodeNo)} {e : Event} {r : Result Told TurnFault}
       → Tells flat_runs v c e r c' → (a : Automaton) → IsFileOf pga bytes a → HearsOr a (position_in set_position c) e r (position_in set_position c')
-  pga_hears v reads {c} {c'} {e} {r} t a (is_pga {f = f} k) =
+  pga_hears {v} reads {c} {c'} {e} {r} t a (is_pga {f = f} k) =
       let is = reads f (subst (λ b. IsPga b f) (sym same) k) in
       subst (λ z. HearsOr (flat z) (position_in set_position c) e r (position_in set_position c')) is
       (hears_by flat_runs v (flat (acceptor_of v)) set_position (subst FitPga (sym is) k.fit) refl (λ p h. ap nodes h) (λ p q x h. ap nodes h)
       (λ p b d. set_end (acceptor_of v) p b d) t)
 
-  pub pgd_hears : (v : Subset) → ((d : Determined) → IsPgd read d → determined_of v ≡ d) → {c c' : Condition (Maybe StateNo)} {e : Event} {r : Result Told TurnFault}
+  pub pgd_hears : {v : Subset} → ((d : Determined) → IsPgd read d → determined_of v ≡ d) → {c c' : Condition (Maybe StateNo)} {e : Event} {r : Result Told TurnFault}
       → Tells subset_runs v c e r c' → (a : Automaton) → IsFileOf pgd bytes a → HearsOr a (position_in state_position c) e r (position_in state_position c')
-  pgd_hears v reads {c} {c'} {e} {r} t a (is_pgd {d = d} k) =
+  pgd_hears {v} reads {c} {c'} {e} {r} t a (is_pgd {d = d} k) =
       let is = reads d (subst (λ b. IsPgd b d) (sym same) k) in
       subst (λ z. HearsOr (subset z) (position_in state_position c) e r (position_in state_position c')) is
       (hears_by subset_runs v (subset (determined_of v)) state_position (subst FitPgd (sym is) k.fit) refl (λ p h. ap state (state_first p h))

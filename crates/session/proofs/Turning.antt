@@ -1,8 +1,8 @@
 -- The steps of a turn's events.
-use Rattle.std.proofs.Common.{◌≡◌, ℕ, ◌<◌, true, false, List, map, length, take, set, sym, refl, ap, ◌∙◌, subst, arith}
-use mathlib.Core.Option.{Option, none, some}
+use Rattle.std.proofs.Common.{◌≡◌, ℕ, ◌<◌, ◌≤◌, min, true, false, List, map, length, get_or, take, set, Some, None, sym, refl, ap, ◌∙◌, subst}
+use mathlib.Core.Option.{Option, some}
 use lib.ListN.{get_elem?}
-use Rattle.table.proofs.Lists.{stands_below}
+use Rattle.theory.proofs.Lists.{some_one}
 use Rattle.acceptor.specs.declared.fault.TurnFault.{TurnFault}
 use Rattle.acceptor.specs.declared.turn.Event.{Event}
 use Rattle.acceptor.specs.declared.turn.Event.TheVariants.{Begin, Word, End}
@@ -21,27 +21,28 @@ use Rattle.session.specs.declared.record.Standing.{Standing}
 use Rattle.session.specs.declared.record.Turn.{Turn as Record}
 use Rattle.session.specs.View.{stands_on, stands_at, turn_of}
 use Rattle.session.specs.Answering.{Answered}
-use Rattle.session.specs.Turns.{in_use}
+use Rattle.session.specs.Turns.{in_use, Found}
 use Rattle.session.specs.Hearing.{Hears, Refuses, HeardSo, call_of, told_answer}
 use Rattle.session.specs.Hearing.Hears.{begins, takes, judges}
 use Rattle.session.specs.Hearing.Refuses.{no_word, no_end, unknown}
 use Rattle.session.proofs.Answering.{answers}
-use Rattle.session.proofs.Lists.{set_taken}
+use Rattle.session.proofs.Lists.{set_taken, got, none_past}
 
 -- ── a turn by its number ──
 
--- nothing stands there
-pub no_turn : (turns : List Turn) (i : ℕ) → get_elem? turns i ≡ none → (u : Turn) → get_elem? turns i ≡ some u → u.live ≡ false
-no_turn turns i e u h = let z : ◌≡◌ {A = ℕ} 0 1 = cc in absurd (omega arith)
+module _ (n : ℕ) (rows : List Record) (i : ℕ) where
+  -- no row is counted there
+  pub past_turns : min n (length rows) ≤ i → Found (map turn_of (take n rows)) i None
+  past_turns l u h = let e = none_past turn_of n rows i l in absurd cc
 
--- a turn in use stands there
-pub live_turn : (turns : List Turn) (i : ℕ) (u : Turn) (at : Standing) → get_elem? turns i ≡ some u → u.live ≡ true → stands_on at ≡ u.kind → stands_at at ≡ u.at
-    → get_elem? turns i ≡ some (in_use at)
-live_turn turns i u at e l k p = e ∙ λ j. some (record { kind = sym k j; live = l j; at = sym p j })
+  -- the row is that of a turn out of use
+  pub out_of_use : {row : Record} → i < n → i < length rows → row ≡ get_or rows i row → (turn_of row).live ≡ false → Found (map turn_of (take n rows)) i None
+  out_of_use {row} l k e out u h = subst (λ (v : Turn). v.live ≡ false) (some_one (got turn_of n rows i l k e) h) out
 
--- a turn out of use stands there
-pub retired_turn : (turns : List Turn) (i : ℕ) (t : Turn) → get_elem? turns i ≡ some t → t.live ≡ false → (u : Turn) → get_elem? turns i ≡ some u → u.live ≡ false
-retired_turn turns i t e l u h = let s : t ≡ u = cc in subst (λ (v : Turn). v.live ≡ false) s l
+  -- the row is that of a turn in use
+  pub still_in_use : {row : Record} (at : Standing) → i < n → i < length rows → row ≡ get_or rows i row → (turn_of row).live ≡ true → stands_on at ≡ (turn_of row).kind
+      → stands_at at ≡ (turn_of row).at → Found (map turn_of (take n rows)) i (Some at)
+  still_in_use at l k e live kind place = got turn_of n rows i l k e ∙ λ j. some (record { kind = sym kind j; live = live j; at = sym place j })
 
 -- ── the file of a turn in use ──
 
@@ -72,13 +73,10 @@ module _ (s : State) (i : ℕ) (u : Turn) (a : Automaton) (in-it : InUse s i u a
   refused_step p no_end q = end_unbegun u a in-it p q
   refused_step p (unknown {p = at} l) q = word_unknown u a at in-it p l q
 
--- a turn in use is told of an event: it is in the rows, and stands where the event leads
-pub turn_there : (turns : List Turn) (i : ℕ) (u : Turn) → get_elem? turns i ≡ some u → i < length turns
-turn_there = stands_below
-
-pub told_step : (s s' : State) (i : ℕ) (at after : Standing) (e : Event) (t : Told) → get_elem? s.turns i ≡ some (in_use at) → HeardSo s at e t after
+-- a turn in use is told of an event, and stands where the event leads
+pub told_step : {s s' : State} (i : ℕ) {at after : Standing} {e : Event} {t : Told} → get_elem? s.turns i ≡ some (in_use at) → HeardSo s at e t after
     → s' ≡ record { book = s.book; pga = s.pga; pgd = s.pgd; turns = set s.turns i (in_use after); places = s.places } → Answered s (call_of i e) (told_answer t) s'
-told_step s s' i at after e t there h q = answers step
+told_step {s} {s'} i {at} {after} {e} {t} there h q = answers step
   where
     step : InOrder s → Step s (call_of i e) (told_answer t) s'
     step o =
@@ -104,7 +102,7 @@ unusable_step s i End h = answers (λ o. turn_unusable on_end h refl)
 pub row_set : (n : ℕ) (rows : List Record) (i : ℕ) (t : Record) (u : Turn) → turn_of t ≡ u → map turn_of (take n (set rows i t)) ≡ set (map turn_of (take n rows)) i u
 row_set n rows i t u e = set_taken turn_of n rows i t ∙ ap (set (map turn_of (take n rows)) i) e
 
-pub moved_to : (s : State) (before after : List Turn) (places : ℕ) → before ≡ after → places ≡ s.places
+pub moved_to : (s : State) {before after : List Turn} {places : ℕ} → before ≡ after → places ≡ s.places
     → ◌≡◌ {A = State} (record { book = s.book; pga = s.pga; pgd = s.pgd; turns = before; places = places })
     (record { book = s.book; pga = s.pga; pgd = s.pgd; turns = after; places = s.places })
-moved_to s before after places e p i = record { book = s.book; pga = s.pga; pgd = s.pgd; turns = e i; places = p i }
+moved_to s e p i = record { book = s.book; pga = s.pga; pgd = s.pgd; turns = e i; places = p i }

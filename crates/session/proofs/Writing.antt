@@ -25,10 +25,10 @@ abbrev pub pga_written : State → List ℕ → List ℕ → ℕ → State
 pga_written s book bytes used = record { book = book; pga = rewritten s.pga bytes used; pgd = s.pgd; turns = s.turns; places = s.places }
 
 -- the session lends its book table and its PGA's buffer to compile, and has them back
-pub compile_answers : (s s₁ : State) → s₁ ≡ taken pga s.pga.bytes s.pga.used s → (m : Meaning) (room : Room) (t : CompileTables) (r : Result Counts CompileFault)
-    → (book out out' : List ℕ) → book ≡ s₁.book → out ≡ s₁.pga.bytes → CompiledOr book m room (compile_lengths t (length out)) out r out' → length out' ≡ length out
+pub compile_answers : (s s₁ : State) (r : Result Counts CompileFault) {m : Meaning} {room : Room} {t : CompileTables} {book out out' : List ℕ}
+    → s₁ ≡ taken pga s.pga.bytes s.pga.used s → book ≡ s₁.book → out ≡ s₁.pga.bytes → CompiledOr book m room (compile_lengths t (length out)) out r out' → length out' ≡ length out
     → Answered s (compile m room t) (compile_answer r) (pga_written s₁ book out' (compiled_length r s₁.pga.used))
-compile_answers s s₁ e m room t r book out out' b f k l =
+compile_answers s s₁ r {m} {room} {t} {book} {out} {out'} e b f k l =
     subst (λ z. Answered s (compile m room t) (compile_answer r) (pga_written s₁ z out' (compiled_length r s₁.pga.used))) (sym b)
     (subst (λ z. Answered s (compile m room t) (compile_answer r) (pga_written z z.book out' (compiled_length r z.pga.used))) (sym e)
     (answers (λ i. compiled r out' done refl)))
@@ -44,11 +44,11 @@ pgd_written s a bytes used =
     record { book = s.book; pga = rewritten s.pga a s.pga.used; pgd = rewritten s.pgd bytes used; turns = s.turns; places = s.places }
 
 -- the session lends both buffers to determinise, and has them back
-pub determinise_answers : (s s₁ : State) → s.pga.opened ≡ true → s₁ ≡ taken pgd s.pgd.bytes s.pgd.used s → (t : SubsetTables)
-    → (r : Result SubsetCounts DeterminiseFault) (a bytes out out' : List ℕ) → a ≡ s₁.pga.bytes → bytes ≡ take s₁.pga.used a → out ≡ s₁.pgd.bytes
+pub determinise_answers : (s s₁ : State) (r : Result SubsetCounts DeterminiseFault) {t : SubsetTables} {a bytes out out' : List ℕ}
+    → s.pga.opened ≡ true → s₁ ≡ taken pgd s.pgd.bytes s.pgd.used s → a ≡ s₁.pga.bytes → bytes ≡ take s₁.pga.used a → out ≡ s₁.pgd.bytes
     → DeterminisedOr bytes (subset_lengths t (length out)) out r out' → length out' ≡ length out
     → Answered s (determinise t) (determinise_answer r) (pgd_written s₁ a out' (determinised_length r s₁.pgd.used))
-determinise_answers s s₁ o e t r a bytes out out' f g h k l =
+determinise_answers s s₁ r {t} {a} {bytes} {out} {out'} o e f g h k l =
     subst (λ z. Answered s (determinise t) (determinise_answer r) (pgd_written s₁ z out' (determinised_length r s₁.pgd.used))) (sym f)
     (subst (λ z. Answered s (determinise t) (determinise_answer r) (pgd_written z z.pga.bytes out' (determinised_length r z.pgd.used))) (sym e)
     (answers (λ i. determinised r out' o done refl)))

@@ -116,7 +116,7 @@ impl<'book, 'pga, 'pgd, 'turns> Session<'book, 'pga, 'pgd, 'turns> {
             (compile_answer result) (view self.new) }
     {
         self.take(Kind::Pga);
-        // Taken out for the call: no rule of proof lends the book while another field behind the session is lent too.
+        // Taken out for the call: no rule of proof covers a `&` into one field behind the session while another field is written.
         let book = mem::replace(&mut self.book, &mut []);
         let answer = compile_book(book, policy, work, self.pga.bytes);
         self.book = book;

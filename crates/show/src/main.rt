@@ -5,6 +5,8 @@
 use book::{Refusal, load};
 use compiler::compile::compile_book;
 use compiler::tables::Tables;
+use fields::format::ARC_SIZE;
+use pga::format::{ARCS_AT, JUMP_SIZE};
 use pga::listing::{Counts, list};
 use policy::path::Path;
 use std::io::{Read, Write};
@@ -19,7 +21,7 @@ const NODES: usize = 128;
 
 const MOVES: usize = 1024;
 
-const FILE: usize = 15 + 6 * MOVES + 4 * MOVES;
+const FILE: usize = ARCS_AT + ARC_SIZE * MOVES + JUMP_SIZE * MOVES;
 
 /// Room for the text of any such acceptor.
 const TEXT: usize = 32768;
@@ -39,7 +41,7 @@ fn show_file(input: &[u8], text: &mut [u8]) -> Result<usize, Refusal> {
     let counts = compile_path(&book, &mut file)?;
     let arcs = counts.arcs.min(MOVES);
     let jumps = counts.jumps.min(MOVES);
-    let end = 15 + 6 * arcs + 4 * jumps;
+    let end = ARCS_AT + ARC_SIZE * arcs + JUMP_SIZE * jumps;
     let used = list(counts, &file[..end], text)?;
     Ok(used)
 }

@@ -18,9 +18,6 @@ module _ {E : Type 0} {rows : List E} {n : ℕ} {e : E} where
   number_below {i} fit (old s) = let b = stands_below (take n rows) i e s in omega (arith, length-take-le n rows fit)
   number_below fit (new l h) = h
 
-  pub found_as : {r r' : Option ℕ} {rows' : List E} {n' : ℕ} → r ≡ r' → FoundOrAdded rows n e r rows' n' → FoundOrAdded rows n e r' rows' n'
-  found_as {rows' = rows'} {n'} q h = subst (λ o. FoundOrAdded rows n e o rows' n') q h
-
 -- a search for the first row that equals e
 pub looked : {E : Type 0} (equals : E → E → Bool) → Exact (λ x y r. r ≡ equals x y) → (rows : List E) (e : E) (r : Option ℕ)
     → MatchOption r (AllWithin (λ x. false ≡ equals x e) rows 0 (length rows)) (λ i. (i < length rows) × HoldsAt (λ x. true ≡ equals x e) rows i × AllWithin (λ x. false ≡ equals x e) rows 0 i)

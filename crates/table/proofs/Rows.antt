@@ -1,17 +1,19 @@
 -- Rows of words as sets: members, equality, one more member, how many, and the next one.
-use Rattle.std.proofs.Common.{◌≡◌, ℕ, zero, suc, ◌+◌, ◌-◌, ◌*◌, ◌/◌, ◌%◌, ◌^◌, ◌<◌, ◌≤◌, max, Bool, eqb, List, length, get_or, set, replicate, sum_by, take, Some, None, Option, sym, refl, ap, ◌∙◌, subst, inl, inr, ⊎_elim, add-one, arith, length-set, get_or-set_other, get_or-set_same, eq-eqb, eqb-true}
+use Rattle.std.proofs.Common.{◌≡◌, ℕ, zero, suc, ◌+◌, ◌-◌, ◌*◌, ◌/◌, ◌%◌, ◌^◌, ◌<◌, ◌≤◌, Bool, eqb, List, length, get_or, set, replicate, sum_by, take, Some, None, Option, sym, refl, ap, ◌∙◌, subst, inl, inr, ⊎_elim, add-one, arith, length-set, get_or-set_other, get_or-set_same, eq-eqb, eqb-true}
 use mathlib.Core.List.{Memᴰ}
 use lib.Bits.{bit_or}
 use lib.Count.{ones, ones-le, count_trailing_zeros}
 use Rattle.std.proofs.lemmas.Nat.{one_shl, or_lt, pow_below}
+use Rattle.std.proofs.lemmas.Nat.Bits.{bit_at-lt, bit_at-zero, bit_at_above, bit_at_set_same, bit_at_set_other, bit_at-trailing_zeros, same_from_bits_below}
 use Rattle.std.proofs.Math.Seq.{take-length}
+use Rattle.std.specs.Int.{w64}
 use Rattle.std.proofs.lemmas.List.{get_or_default, get_or_past, ext_get_or}
 use Rattle.std.proofs.lemmas.List.Sums.{sum_by_more, sum_by-le}
 use Rattle.std.proofs.lemmas.Bool.{cases_lt}
 use Rattle.std.proofs.lemmas.Bool.Decides.{eqb_tells}
 use Rattle.table.specs.Lists.{Ascending}
 use Rattle.table.specs.Sets.{Row, bit, bit_of, In, passing, members, Listed, Inserted, NextMember}
-use Rattle.table.proofs.Bits.{Lowest, bit_below, bit_of_or, bit_zero, bit_high, bit_shr, bit_pow_same, bit_pow_other, passing_ones, lowest_is, bits_same}
+use Rattle.table.proofs.Bits.{Lowest, bit_shr, passing_ones}
 use Rattle.table.proofs.Orders.{passing_only, passing_has, passing_ascending, passing_same, passing_length}
 
 -- ---- members
@@ -22,7 +24,7 @@ in_below words row k h =
     ⊎_elim (λ l. l)
     (λ l.
     let past : get_or words (k / 64) 0 ≡ 0 = get_or_past words (k / 64) 0 (omega (arith, row.0)) in
-    let off : bit (get_or words (k / 64) 0) (k % 64) ≡ 0 = ap (λ (w : ℕ). bit w (k % 64)) past ∙ bit_zero (k % 64) in
+    let off : bit (get_or words (k / 64) 0) (k % 64) ≡ 0 = ap (λ (w : ℕ). bit w (k % 64)) past ∙ bit_at-zero (k % 64) in
     absurd (omega (arith, off, h)))
     (cases_lt k 4096)
 
@@ -39,9 +41,6 @@ pub members_ascending : (words : List ℕ) → Ascending (members words)
 unfolding members
 members_ascending words = passing_ascending (λ j. eqb (bit_of words j) 1) (64 * length words)
 
-pub members_below : (words : List ℕ) → Row words → (k : ℕ) → Memᴰ k (members words) → k < 4096
-members_below words row k m = in_below words row k (members_in words k m)
-
 pub members_listed : (words : List ℕ) → Row words → Listed words (members words)
 members_listed words row = record { ascending = members_ascending words; just = members_in words; every = in_members words row }
 
@@ -55,11 +54,11 @@ pub words_same : (ws vs : List ℕ) → Row ws → Row vs → ((k : ℕ) → In 
 unfolding In
 words_same ws vs r s f g =
     ext_get_or 0 ws vs (r.0 ∙ sym s.0) (λ i h.
-    bits_same 64 (get_or ws i 0) (get_or vs i 0) (r.1 i) (s.1 i) (λ b l.
+    same_from_bits_below 64 (get_or ws i 0) (get_or vs i 0) (r.1 i) (s.1 i) (λ b l.
     let q : (64 * i + b) / 64 ≡ i = omega arith in
     let m : (64 * i + b) % 64 ≡ b = omega arith in
     let here : (us : List ℕ) → bit_of us (64 * i + b) ≡ bit (get_or us i 0) b = λ us. rw (q, m) refl in
-    sym (here ws) ∙ same_bit (bit_of ws (64 * i + b)) (bit_of vs (64 * i + b)) (bit_below (get_or ws ((64 * i + b) / 64) 0) ((64 * i + b) % 64)) (bit_below (get_or vs ((64 * i + b) / 64) 0) ((64 * i + b) % 64)) (f (64 * i + b)) (g (64 * i + b)) ∙ here vs))
+    sym (here ws) ∙ same_bit (bit_of ws (64 * i + b)) (bit_of vs (64 * i + b)) (bit_at-lt _ _) (bit_at-lt _ _) (f (64 * i + b)) (g (64 * i + b)) ∙ here vs))
 
 -- and so are rows with one list of members
 pub members_same : (ws vs : List ℕ) → Row ws → Row vs → members ws ≡ members vs → ws ≡ vs
@@ -78,7 +77,7 @@ zeros_at (suc n) (suc i) = zeros_at n i
 pub zeros_lack : (words : List ℕ) → ((i : ℕ) → get_or words i 0 ≡ 0) → (k : ℕ) → In words k → ⊥
 unfolding In
 zeros_lack words zeros k h =
-    let off : bit_of words k ≡ 0 = ap (λ (w : ℕ). bit w (k % 64)) (zeros (k / 64)) ∙ bit_zero (k % 64) in
+    let off : bit_of words k ≡ 0 = ap (λ (w : ℕ). bit w (k % 64)) (zeros (k / 64)) ∙ bit_at-zero (k % 64) in
     omega (arith, off, h)
 
 -- ---- one more member
@@ -107,19 +106,13 @@ module _ (ws : List ℕ) (row : Row ws) (k : ℕ) (small : k < 4096) where
   )
 
   bit_here : bit_of (with_bit ws k) k ≡ 1
-  bit_here =
-      let one : bit ((1 * 2 ^ (k % 64)) % 2 ^ 64) (k % 64) ≡ 1 = ap (λ (x : ℕ). bit x (k % 64)) mask ∙ bit_pow_same (k % 64) in
-      let top : max (bit (get_or ws (k / 64) 0) (k % 64)) (bit ((1 * 2 ^ (k % 64)) % 2 ^ 64) (k % 64)) ≡ 1 = omega (arith, one, bit_below (get_or ws (k / 64) 0) (k % 64)) in
-      ap (λ (x : ℕ). bit x (k % 64)) (get_or-set_same ws (k / 64) _ 0 place) ∙ bit_of_or (get_or ws (k / 64) 0) _ (k % 64) ∙ top
+  bit_here = ap (λ (x : ℕ). bit x (k % 64)) (get_or-set_same ws (k / 64) _ 0 place) ∙ bit_at_set_same w64 (get_or ws (k / 64) 0) (k % 64) (omega arith)
 
   bit_elsewhere : (j : ℕ) → (j ≡ k → ⊥) → bit_of (with_bit ws k) j ≡ bit_of ws j
   bit_elsewhere j ne =
       ⊎_elim
       (λ e. let q : j / 64 ≡ k / 64 = e.1 in
-      let nb : j % 64 ≡ k % 64 → ⊥ = λ (x : j % 64 ≡ k % 64). ne (omega arith) in
-      let off : bit ((1 * 2 ^ (k % 64)) % 2 ^ 64) (j % 64) ≡ 0 = ap (λ (x : ℕ). bit x (j % 64)) mask ∙ bit_pow_other (k % 64) (j % 64) nb in
-      let top : max (bit (get_or ws (k / 64) 0) (j % 64)) (bit ((1 * 2 ^ (k % 64)) % 2 ^ 64) (j % 64)) ≡ bit (get_or ws (k / 64) 0) (j % 64) = omega (arith, off) in
-      rw q (ap (λ (x : ℕ). bit x (j % 64)) (get_or-set_same ws (k / 64) _ 0 place) ∙ bit_of_or (get_or ws (k / 64) 0) _ (j % 64) ∙ top))
+      rw q (ap (λ (x : ℕ). bit x (j % 64)) (get_or-set_same ws (k / 64) _ 0 place) ∙ bit_at_set_other w64 (get_or ws (k / 64) 0) (k % 64) (omega arith) (j % 64) (λ x. ne (omega arith))))
       (λ e. ap (λ (x : ℕ). bit x (j % 64)) (get_or-set_other ws (k / 64) (j / 64) _ 0 e.1))
       (eqb_tells (j / 64) (k / 64))
 
@@ -131,13 +124,6 @@ module _ (ws : List ℕ) (row : Row ws) (k : ℕ) (small : k < 4096) where
         kept = λ j h. ⊎_elim (λ e. ap (bit_of (with_bit ws k)) e.1 ∙ bit_here) (λ e. bit_elsewhere j e.1 ∙ h) (eqb_tells j k);
         only = λ j h. ⊎_elim (λ e. inr (e.1, small)) (λ e. inl (sym (bit_elsewhere j e.1) ∙ h)) (eqb_tells j k);
       }
-
-pub inserted_as : {ws vs : List ℕ} {k j : ℕ} → k ≡ j → Inserted ws k vs → Inserted ws j vs
-inserted_as {ws} {vs} e h = subst (λ (k : ℕ). Inserted ws k vs) e h
-
--- a number that is too large changes nothing
-pub large_inserted : (ws : List ℕ) (k : ℕ) → 4096 ≤ k → Inserted ws k ws
-large_inserted ws k h = record { added = λ l. absurd (omega arith); kept = λ j m. m; only = λ j m. inl m }
 
 -- ---- how many members
 
@@ -197,7 +183,7 @@ module _ (words : List ℕ) (row : Row words) (from : ℕ) where
   in_word : (t : ℕ) → bit (get_or words (from / 64) 0 / 2 ^ (from % 64)) t ≡ 1 → from % 64 + t < 64
   in_word t one =
       ⊎_elim (λ l. l)
-      (λ l. let off : bit (get_or words (from / 64) 0) (from % 64 + t) ≡ 0 = bit_high (get_or words (from / 64) 0) 64 (from % 64 + t) (row.1 (from / 64)) l in
+      (λ l. let off : bit (get_or words (from / 64) 0) (from % 64 + t) ≡ 0 = bit_at_above (get_or words (from / 64) 0) 64 (from % 64 + t) (row.1 (from / 64)) l in
       let e = bit_shr (get_or words (from / 64) 0) (from % 64) t in
       absurd (omega (arith, e, off, one)))
       (cases_lt (from % 64 + t) 64)
@@ -223,7 +209,7 @@ module _ (words : List ℕ) (row : Row words) (from : ℕ) where
       next_down words from (64 * (from / 64 + 1)) (omega arith)
       (λ k l u m.
       let e : from + (k - from) ≡ k = omega arith in
-      let z : bit_of words k ≡ 0 = ap (bit_of words) (sym e) ∙ bit_rest (k - from) (omega arith) ∙ ap (λ (x : ℕ). bit x (k - from)) none_left ∙ bit_zero (k - from) in
+      let z : bit_of words k ≡ 0 = ap (bit_of words) (sym e) ∙ bit_rest (k - from) (omega arith) ∙ ap (λ (x : ℕ). bit x (k - from)) none_left ∙ bit_at-zero (k - from) in
       omega (arith, z, m))
       r next
 
@@ -240,7 +226,7 @@ pub none_in_word : (words : List ℕ) (i : ℕ) → get_or words i 0 ≡ 0 → (
 unfolding In
 none_in_word words i none k l u m =
     let q : k / 64 ≡ i = omega arith in
-    let z : bit_of words k ≡ 0 = ap (λ (j : ℕ). bit (get_or words j 0) (k % 64)) q ∙ ap (λ (x : ℕ). bit x (k % 64)) none ∙ bit_zero (k % 64) in
+    let z : bit_of words k ≡ 0 = ap (λ (j : ℕ). bit (get_or words j 0) (k % 64)) q ∙ ap (λ (x : ℕ). bit x (k % 64)) none ∙ bit_at-zero (k % 64) in
     omega (arith, z, m)
 
 -- no word from number `first` on has a bit
@@ -256,4 +242,4 @@ first_word words row first i l h some none =
     next_down words (64 * first) (64 * i) (omega arith)
     (λ k a b m. none_in_word words (k / 64) (none (k / 64) (omega arith) (omega arith)) k (omega arith) (omega arith) m)
     (Some (64 * i + count_trailing_zeros 64 (get_or words i 0)))
-    (next_in_word words row i h _ (lowest_is 64 (get_or words i 0) (omega (arith, some)) (row.1 i)))
+    (next_in_word words row i h _ (bit_at-trailing_zeros w64 (get_or words i 0) (omega (arith, some)) (row.1 i)))

@@ -6,10 +6,6 @@ use Rattle.finding.specs.Numbered.{Arrow}
 use Rattle.theory.specs.Flattening.{Acceptor, Leads}
 use Rattle.theory.specs.Flattening.Leads.{here, on}
 
--- items by content: left, before the dot, after it
-abbrev pub Items : Type 1
-Items = ℕ → List ℕ → List ℕ → Type 0
-
 -- the least set of items that holds a kernel and the rules of each name after a dot
 pub data Closes (g : Grammar) (K : ℕ → List ℕ → List ℕ → Type 0) : ℕ → List ℕ → List ℕ → Type 0 where
   kernel : {a : ℕ} {l r : List ℕ} → K a l r → Closes g K a l r
@@ -78,7 +74,3 @@ way_to l = way_on l from
 pub leads_on : {moves : List Arrow} {q r : ℕ} {g : List ℕ} → Leads moves q g r → {p : ℕ} {h : List ℕ} → Leads moves r h p → Leads moves q (g ++ h) p
 leads_on here k = k
 leads_on (on v l) k = on v (leads_on l k)
-
-pub way_back : {moves : List Arrow} {p : ℕ} {g : List ℕ} → Way moves p g → Leads moves 0 g p
-way_back from = here
-way_back (over w v) = leads_on (way_back w) (on v here)

@@ -1,15 +1,15 @@
 -- The items of a grammar: how they are numbered, and what stands at a number.
 use Rattle.std.proofs.Common.{◌≡◌, ℕ, zero, suc, ◌+◌, ◌<◌, List, [], ◌∷◌, ◌++◌, length, take, sym, refl, ap, ◌∙◌, subst, ⊎_elim, append_assoc, append-nil, arith}
-use mathlib.Core.Option.{Option, none, some}
+use mathlib.Core.Option.{some}
 use mathlib.Core.List.Memᴰ
 use mathlib.Core.List.{Memᴰ}
 use lib.ListN.{get_elem?}
 use Rattle.std.specs.List.{flat_map}
-use Rattle.std.proofs.lemmas.List.{length-append}
+use Rattle.std.proofs.lemmas.List.{length-append, length_push}
 use Rattle.book.specs.Grammar.{Rule, rule, Grammar, symbols, Rewrites}
 use Rattle.book.specs.Tables.{Fit, FitRule, dots as rules_count}
 use Rattle.table.proofs.Lists.{stands_below, stands_some, stands_left, mem_at, at_mem}
-use Rattle.theory.specs.Items.{Item, item, dots, rule_items, items, Dotted, item_count, first_item, symbol_after, Sound, Numbers}
+use Rattle.theory.specs.Items.{Item, item, dots, rule_items, items, Dotted, item_count, first_item, Sound, Numbers}
 use Rattle.theory.specs.Items.Numbers.{added, ruled}
 use Rattle.theory.proofs.Lists.{some_one, none_some, all_mem, at_right, Later, at_split}
 
@@ -32,10 +32,6 @@ record Dot (a : ℕ) (l r : List ℕ) (j b : ℕ) (m s : List ℕ) : Type 0 wher
 item_parts : {i : Item} {a : ℕ} {l r : List ℕ} → some i ≡ some (item a l r) → (i.left ≡ a) × (i.before ≡ l) × (i.after ≡ r)
 item_parts {i} {a} {l} {r} e = let h : i ≡ item a l r = some_one refl e in (ap (λ (k : Item). k.left) h, ap (λ (k : Item). k.before) h, ap (λ (k : Item). k.after) h)
 
-snoc_length : (l : List ℕ) (x : ℕ) → length (l ++ (x ∷ [])) ≡ length l + 1
-snoc_length [] x = omega arith
-snoc_length (y ∷ l) x = let h = snoc_length l x in omega arith
-
 dots_dot : (a : ℕ) (l r : List ℕ) (j : ℕ) {b : ℕ} {m s : List ℕ} → get_elem? (dots a l r) j ≡ some (item b m s) → Dot a l r j b m s
 dots_dot a l [] zero e =
     let (p, q, t) = item_parts e in
@@ -46,7 +42,7 @@ dots_dot a l (x ∷ r) zero e =
     record { left = sym p; whole = cc; place = (let n = ap length q in omega arith) }
 dots_dot a l (x ∷ r) (suc j) e =
     let d = dots_dot a (l ++ (x ∷ [])) r j e in
-    record { left = d.left; whole = d.whole ∙ append_assoc l (x ∷ []) r; place = (let h = d.place in let n = snoc_length l x in omega arith) }
+    record { left = d.left; whole = d.whole ∙ append_assoc l (x ∷ []) r; place = (let h = d.place in let n = length_push l x in omega arith) }
 
 -- each place of the dot has its item
 dots_at : (a : ℕ) (l m s : List ℕ) → get_elem? (dots a l (m ++ s)) (length m) ≡ some (item a (l ++ m) s)
@@ -138,8 +134,8 @@ pub dotted_next : (g : Grammar) (k : ℕ) {a x : ℕ} {l r : List ℕ} → Dotte
 dotted_next g k {a} {x} {l} {r} e = dotted_at g (suc k) (next (dotted_only g k e))
   where
     next : Numbers g k a l (x ∷ r) → Numbers g (suc k) a (l ++ (x ∷ [])) r
-    next (added n p h) = added (let s = snoc_length l x in omega arith) p (append_assoc l (x ∷ []) r ∙ h)
-    next (ruled i q p n f h) = ruled i q p (let s = snoc_length l x in omega arith) f (append_assoc l (x ∷ []) r ∙ h)
+    next (added n p h) = added (let s = length_push l x in omega arith) p (append_assoc l (x ∷ []) r ∙ h)
+    next (ruled i q p n f h) = ruled i q p (let s = length_push l x in omega arith) f (append_assoc l (x ∷ []) r ∙ h)
 
 -- the first item of a rule
 pub rule_first : (g : Grammar) {a : ℕ} {s : List ℕ} → Memᴰ (rule a s) g.rules → (k : ℕ) × Dotted g k a [] s
@@ -195,39 +191,6 @@ fit_sound g f =
       lefts_known = λ r m. (all_mem (FitRule g) g.rules f.each m).left.1;
       rights_known = λ r m. (all_mem (FitRule g) g.rules f.each m).right;
     }
-
--- ── the symbol after the dot ──
-
-pub symbol_after_is : (g : Grammar) (k : ℕ) {a c : ℕ} {l r : List ℕ} → Dotted g k a l (c ∷ r) → symbol_after g k ≡ some c
-symbol_after_is g k e = rw (e, symbol_after)
-
-pub symbol_after_end : (g : Grammar) (k : ℕ) {a : ℕ} {l : List ℕ} → Dotted g k a l [] → symbol_after g k ≡ none
-symbol_after_end g k e = rw (e, symbol_after)
-
--- an item with c after its dot
-pub record HasAfter (g : Grammar) (k c : ℕ) : Type 0 where
-  pub left : ℕ
-  pub before : List ℕ
-  pub after : List ℕ
-  pub is : Dotted g k left before (c ∷ after)
-
-pub symbol_after_only : (g : Grammar) (k : ℕ) {c : ℕ} → symbol_after g k ≡ some c → HasAfter g k c
-symbol_after_only g k {c} h = cases (get_elem? (items g) k) refl
-  where
-    ends : (i : Item) (r : List ℕ) → i.after ≡ r → get_elem? (items g) k ≡ some i → HasAfter g k c
-    ends i [] q e = absurd (none_some (symbol_after_end g k (e ∙ ap (λ r. some (item i.left i.before r)) q)) h)
-    ends i (x ∷ r) q e =
-        let d : Dotted g k i.left i.before (x ∷ r) = e ∙ ap (λ r. some (item i.left i.before r)) q in
-        let p : x ≡ c = some_one (symbol_after_is g k d) h in
-        record { left = i.left; before = i.before; after = r; is = d ∙ ap (λ y. some (item i.left i.before (y ∷ r))) p }
-
-    cases : (o : Option Item) → get_elem? (items g) k ≡ o → HasAfter g k c
-    cases none e = absurd (none_some (let q : symbol_after g k ≡ none = rw (e, symbol_after) in q) h)
-    cases (some i) e = ends i i.after refl e
-
--- the first item of the rule at a place
-pub first_dotted : (g : Grammar) (i : ℕ) {a : ℕ} {s : List ℕ} → get_elem? g.rules i ≡ some (rule a s) → Dotted g (first_item g i) a [] s
-first_dotted g i {a} {s} e = dotted_at g (first_item g i) (ruled i (rule a s) e (omega arith) refl refl)
 
 -- an item that a name after a dot opens is the first item of one of the name's rules
 pub record FirstOf (g : Grammar) (k c : ℕ) (s : List ℕ) : Type 0 where

@@ -5,15 +5,12 @@ use mathlib.Core.List.Memᴰ
 use mathlib.Core.List.{Memᴰ}
 use lib.ListN.{get_elem?}
 use Rattle.std.specs.List.{AllByRecursion}
+use Rattle.std.proofs.lemmas.Bool.{cases_Bool}
 use Rattle.table.proofs.Orders.{in_order_none, in_order_cons, in_order_head, in_order_tail}
 use Rattle.table.specs.Lists.{InOrder}
 use Rattle.theory.specs.Lists.{and, or, keep, any, every, same}
 
 -- ── tests ──
-
-pub true_or_false : (b : Bool) → (b ≡ true) ⊎ (b ≡ false)
-true_or_false true = inl refl
-true_or_false false = inr refl
 
 pub and_is : (a b : Bool) → a ≡ true → b ≡ true → and a b ≡ true
 and_is true b e f = f
@@ -56,27 +53,27 @@ module _ {A : Type 0} (p : A → Bool) where
       ⊎_elim
       (λ e. ⊎_elim (λ q. (Memᴰ.head q, ap p q ∙ e)) (λ t. let (a, b) = keep_mem xs t in (Memᴰ.tail a, b)) (Memᴰ.cases_cons (subst (Memᴰ k) (keep_take x xs e) m)))
       (λ e. let (a, b) = keep_mem xs (subst (Memᴰ k) (keep_leave x xs e) m) in (Memᴰ.tail a, b))
-      (true_or_false (p x))
+      (cases_Bool (p x))
 
   pub mem_keep : (xs : List A) {k : A} → Memᴰ k xs → p k ≡ true → Memᴰ k (keep p xs)
   mem_keep [] m e = absurd (Memᴰ.not-nil m)
   mem_keep (x ∷ xs) {k} m e =
       ⊎_elim (λ q. subst (Memᴰ k) (sym (keep_take x xs (ap p (sym q) ∙ e))) (Memᴰ.head q))
       (λ t. let r = mem_keep xs t e in
-      ⊎_elim (λ f. subst (Memᴰ k) (sym (keep_take x xs f)) (Memᴰ.tail r)) (λ f. subst (Memᴰ k) (sym (keep_leave x xs f)) r) (true_or_false (p x)))
+      ⊎_elim (λ f. subst (Memᴰ k) (sym (keep_take x xs f)) (Memᴰ.tail r)) (λ f. subst (Memᴰ k) (sym (keep_leave x xs f)) r) (cases_Bool (p x)))
       (Memᴰ.cases_cons m)
 
   pub any_mem : (xs : List A) → any p xs ≡ true → (k : A) × Memᴰ k xs × (p k ≡ true)
   any_mem [] e = absurd (cc)
   any_mem (x ∷ xs) e =
       ⊎_elim (λ q. (x, Memᴰ.head refl, q))
-      (λ (q : p x ≡ false). let (k, m, t) = any_mem xs (rw (q, any) at e) in (k, Memᴰ.tail m, t)) (true_or_false (p x))
+      (λ (q : p x ≡ false). let (k, m, t) = any_mem xs (rw (q, any) at e) in (k, Memᴰ.tail m, t)) (cases_Bool (p x))
 
   pub mem_any : (xs : List A) {k : A} → Memᴰ k xs → p k ≡ true → any p xs ≡ true
   mem_any [] m e = absurd (Memᴰ.not-nil m)
   mem_any (x ∷ xs) m e =
       ⊎_elim (λ q. let f : p x ≡ true = ap p (sym q) ∙ e in rw (f, any))
-      (λ t. let r = mem_any xs t e in ⊎_elim (λ (f : p x ≡ true). rw (f, any)) (λ (f : p x ≡ false). rw (f, any) r) (true_or_false (p x)))
+      (λ t. let r = mem_any xs t e in ⊎_elim (λ (f : p x ≡ true). rw (f, any)) (λ (f : p x ≡ false). rw (f, any) r) (cases_Bool (p x)))
       (Memᴰ.cases_cons m)
 
   pub every_all : (xs : List A) → every p xs ≡ true → AllByRecursion (λ x. p x ≡ true) xs
@@ -84,13 +81,13 @@ module _ {A : Type 0} (p : A → Bool) where
   every_all (x ∷ xs) e =
       ⊎_elim (λ (q : p x ≡ true). (q, every_all xs (rw (q, every) at e)))
       (λ (q : p x ≡ false). let k : every p (x ∷ xs) ≡ false = rw (q, every) in absurd (cc))
-      (true_or_false (p x))
+      (cases_Bool (p x))
 
   pub keep_length : (xs : List A) → length (keep p xs) ≤ length xs
   keep_length [] = omega arith
   keep_length (x ∷ xs) =
       let h = keep_length xs in
-      ⊎_elim (λ e. rw (keep_take x xs e) (omega arith)) (λ e. rw (keep_leave x xs e) (omega arith)) (true_or_false (p x))
+      ⊎_elim (λ e. rw (keep_take x xs e) (omega arith)) (λ e. rw (keep_leave x xs e) (omega arith)) (cases_Bool (p x))
 
   pub in_order_keep : (R : A → A → Type 0) (xs : List A) → InOrder R xs → InOrder R (keep p xs)
   in_order_keep R [] h = in_order_none R
@@ -98,7 +95,7 @@ module _ {A : Type 0} (p : A → Bool) where
       ⊎_elim
       (λ e. subst (InOrder R) (sym (keep_take x xs e)) (in_order_cons R x (keep p xs) (λ u m. in_order_head R x xs h u (keep_mem xs m).0) (in_order_keep R xs (in_order_tail R x xs h))))
       (λ e. subst (InOrder R) (sym (keep_leave x xs e)) (in_order_keep R xs (in_order_tail R x xs h)))
-      (true_or_false (p x))
+      (cases_Bool (p x))
 
 pub same_equal : (xs ys : List ℕ) → same xs ys ≡ true → xs ≡ ys
 same_equal [] [] e = refl
@@ -107,7 +104,7 @@ same_equal (x ∷ xs) [] e = absurd (cc)
 same_equal (x ∷ xs) (y ∷ ys) e =
     ⊎_elim (λ (q : eqb x y ≡ true). let r = same_equal xs ys (rw (q, same) at e) in let s = eqb-true x y q in cc)
     (λ (q : eqb x y ≡ false). let k : same (x ∷ xs) (y ∷ ys) ≡ false = rw (q, same) in absurd (cc))
-    (true_or_false (eqb x y))
+    (cases_Bool (eqb x y))
 
 -- ── elements ──
 

@@ -1,10 +1,11 @@
 -- Growing a set until nothing is new gives just what its members lead to.
 use Rattle.std.proofs.Common.{◌≡◌, ℕ, zero, suc, ◌+◌, ◌<◌, ◌≤◌, Bool, true, false, eqb, ◌⊎◌, ◌↔◌, List, [], ◌∷◌, length, sym, refl, ap, ◌∙◌, subst, inl, inr, ⊎_elim, arith, eq-eqb, eqb-true}
+use Rattle.std.proofs.lemmas.Bool.{cases_Bool}
 use mathlib.Core.List.{Memᴰ}
 use Rattle.table.specs.Lists.{Ascending}
 use Rattle.theory.specs.Lists.{keep, same, joins, grow, rounds, saturate, Reach}
 use Rattle.theory.specs.Lists.Reach.{base, step}
-use Rattle.theory.proofs.Lists.{true_or_false, or_left, or_right, or_cases, keep_take, keep_leave, keep_mem, mem_keep, any_mem, mem_any, keep_length, same_equal, in_order_keep}
+use Rattle.theory.proofs.Lists.{or_left, or_right, or_cases, keep_take, keep_leave, keep_mem, mem_keep, any_mem, mem_any, keep_length, same_equal, in_order_keep}
 
 -- a weaker test keeps the same, or more
 keep_more : (p q : ℕ → Bool) (xs : List ℕ) → ((k : ℕ) → Memᴰ k xs → p k ≡ true → q k ≡ true) → (keep q xs ≡ keep p xs) ⊎ (length (keep p xs) < length (keep q xs))
@@ -18,8 +19,8 @@ keep_more p q (x ∷ xs) h =
     (λ pf. ⊎_elim
     (λ qt. rw (keep_leave p x xs pf, keep_take q x xs qt) (inr (omega arith)))
     (λ qf. rw (keep_leave p x xs pf, keep_leave q x xs qf) r)
-    (true_or_false (q x)))
-    (true_or_false (p x))
+    (cases_Bool (q x)))
+    (cases_Bool (p x))
 
 module _ (U : List ℕ) (leads : ℕ → ℕ → Bool) where
   abbrev Stable : List ℕ → Type 0
@@ -34,7 +35,7 @@ module _ (U : List ℕ) (leads : ℕ → ℕ → Bool) where
   stable_rounds : (n : ℕ) (s : List ℕ) → Stable s → rounds U leads n s ≡ s
   stable_rounds zero s e = refl
   stable_rounds (suc n) s e =
-      ⊎_elim (λ q. rounds_stop n s q) (λ q. rounds_go n s q ∙ ap (rounds U leads n) e ∙ stable_rounds n s e) (true_or_false (same s (grow U leads s)))
+      ⊎_elim (λ q. rounds_stop n s q) (λ q. rounds_go n s q ∙ ap (rounds U leads n) e ∙ stable_rounds n s e) (cases_Bool (same s (grow U leads s)))
 
   kept_joins : (p : ℕ → Bool) (k : ℕ) → Memᴰ k U → p k ≡ true → joins U leads (keep p U) k ≡ true
   kept_joins p k m e = or_left _ _ (mem_any (eqb k) (keep p U) (mem_keep p U m e) (eq-eqb k k refl))
@@ -49,7 +50,7 @@ module _ (U : List ℕ) (leads : ℕ → ℕ → Bool) where
       (⊎_elim (λ e. subst Stable (sym (stable_rounds n (grow U leads (keep p U)) (ap (grow U leads) e))) (ap (grow U leads) e))
       (λ l. settles n (joins U leads (keep p U)) (omega arith))
       (keep_more p (joins U leads (keep p U)) U (kept_joins p))))
-      (true_or_false (same (keep p U) (grow U leads (keep p U))))
+      (cases_Bool (same (keep p U) (grow U leads (keep p U))))
 
   -- what is kept is reached
   grow_sound : (s t : List ℕ) → ((j k : ℕ) → Memᴰ j t → leads j k ≡ true → Reach U leads s j) → ((k : ℕ) → Memᴰ k t → Memᴰ k U → Reach U leads s k) → (k : ℕ) → Memᴰ k (grow U leads t) → Reach U leads s k
@@ -64,7 +65,7 @@ module _ (U : List ℕ) (leads : ℕ → ℕ → Bool) where
   sound s (suc n) t h k m =
       ⊎_elim (λ q. h k (subst (Memᴰ k) (rounds_stop n t q) m))
       (λ q. sound s n (grow U leads t) (grow_sound s t (λ i j w e. h i w) (λ i w u. h i w)) k (subst (Memᴰ k) (rounds_go n t q) m))
-      (true_or_false (same t (grow U leads t)))
+      (cases_Bool (same t (grow U leads t)))
 
   grown : (s : List ℕ) (k : ℕ) → Memᴰ k U → Memᴰ k s → Memᴰ k (grow U leads s)
   grown s k u m = mem_keep (joins U leads s) U u (or_left _ _ (mem_any (eqb k) s m (eq-eqb k k refl)))
@@ -73,7 +74,7 @@ module _ (U : List ℕ) (leads : ℕ → ℕ → Bool) where
   stays zero s k u m = m
   stays (suc n) s k u m =
       ⊎_elim (λ q. subst (Memᴰ k) (sym (rounds_stop n s q)) m) (λ q. subst (Memᴰ k) (sym (rounds_go n s q)) (stays n (grow U leads s) k u (grown s k u m)))
-      (true_or_false (same s (grow U leads s)))
+      (cases_Bool (same s (grow U leads s)))
 
   complete : (s : List ℕ) (k : ℕ) → Reach U leads s k → Memᴰ k (saturate U leads s)
   complete s k (base u m) = stays (length U) (grow U leads s) k u (grown s k u m)
@@ -93,7 +94,7 @@ module _ (U : List ℕ) (leads : ℕ → ℕ → Bool) where
   rounds_ascending (suc n) s u h =
       ⊎_elim (λ q. subst Ascending (sym (rounds_stop n s q)) h)
       (λ q. subst Ascending (sym (rounds_go n s q)) (rounds_ascending n (grow U leads s) u (in_order_keep (joins U leads s) ◌<◌ U u)))
-      (true_or_false (same s (grow U leads s)))
+      (cases_Bool (same s (grow U leads s)))
 
   pub saturate_ascending : (s : List ℕ) → Ascending U → Ascending (saturate U leads s)
   saturate_ascending s u = rounds_ascending (length U) (grow U leads s) u (in_order_keep (joins U leads s) ◌<◌ U u)

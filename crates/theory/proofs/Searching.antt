@@ -1,5 +1,6 @@
 -- The finding order, computed, is the finding order as a relation.
 use Rattle.std.proofs.Common.{◌≡◌, ℕ, zero, suc, ◌+◌, Bool, true, false, ◌≢◌, ◌⊎◌, List, [], ◌∷◌, ◌++◌, length, sym, refl, ap, ◌∙◌, subst, inl, inr, ⊎_elim, append_assoc, append-nil, arith}
+use Rattle.std.proofs.lemmas.Bool.{cases_Bool}
 use mathlib.Core.Option.{Option, none, some}
 use mathlib.Core.List.Memᴰ
 use mathlib.Core.List.{Memᴰ}
@@ -11,7 +12,7 @@ use Rattle.finding.specs.Numbered.Rows.{end as rows_end, row}
 use Rattle.table.proofs.Lists.{stands_left}
 use Rattle.theory.specs.Executable.{Search, search_of, Placed, placed, place, scan, visit, numbered}
 use Rattle.std.proofs.lemmas.List.{length_push}
-use Rattle.theory.proofs.Lists.{true_or_false, some_one, none_some, at_right}
+use Rattle.theory.proofs.Lists.{some_one, none_some, at_right}
 
 firsts_append : {A : Type 0} {seen xs ns : List A} → Firsts seen xs ns → {ys ms : List A} → Firsts (seen ++ ns) ys ms → Firsts seen (xs ++ ys) (ns ++ ms)
 firsts_append {seen = seen} nil {ys} {ms} f = subst (λ l. Firsts l ys ms) (append-nil seen) f
@@ -78,7 +79,7 @@ module _ {A : Type 0} {equal : A → A → Bool} (tells : Tells equal) (step : A
 
   put : (t : A) (j : ℕ) (es : List A) → Put t j es (at t j es)
   put t j [] = added Memᴰ.not-nil refl (omega arith)
-  put t j (e ∷ es) = cases (put t (j + 1) es) (true_or_false (equal t e))
+  put t j (e ∷ es) = cases (put t (j + 1) es) (cases_Bool (equal t e))
     where
       hit : equal t e ≡ true → at t j (e ∷ es) ≡ placed j (e ∷ es)
       hit h = rw (h, place)

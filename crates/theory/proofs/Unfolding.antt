@@ -1,5 +1,6 @@
 -- The unfolded machine: its moves follow the machine's, each node is reached by a stack, and it is a lawful graph.
 use Rattle.std.proofs.Common.{◌≡◌, ℕ, zero, suc, ◌<◌, true, false, eqb, ◌↔◌, List, [], ◌∷◌, ◌++◌, length, sym, refl, ap, ◌∙◌, subst, ⊎_elim, arith, eq-eqb, eqb-true}
+use Rattle.std.proofs.lemmas.Bool.{cases_Bool}
 use mathlib.Core.Option.{Option, none, some}
 use mathlib.Core.List.Memᴰ
 use mathlib.Core.List.{Memᴰ}
@@ -16,7 +17,7 @@ use Rattle.theory.specs.Policies.Stacked.{empty, push}
 use Rattle.theory.specs.Unfolding.{along, Node, node, onward, Unfolded, NodeHolds, FinalNode, StackOf, UnfoldingLaws}
 use Rattle.theory.specs.Flattening.{Leads}
 use Rattle.theory.specs.Flattening.Leads.{here, on}
-use Rattle.theory.proofs.Lists.{true_or_false, and_is, and_only, some_one, none_some}
+use Rattle.theory.proofs.Lists.{and_is, and_only, some_one, none_some}
 use Rattle.theory.proofs.Numbering.{entry_left, move_made, step_made, move_symbol, move_one, from_earlier}
 use Rattle.theory.proofs.Machine.{zeroth, moved, moves_when, moves_only}
 use Rattle.theory.proofs.States.{zero_unentered, final_not_zero, final_entered, final_state}
@@ -37,7 +38,7 @@ along_mem ((q, y, p) ∷ ms) {s} {x} {t} e =
     let a : s ≡ q = sym (eqb-true q s f) in let c : x ≡ y = sym (eqb-true y x g) in
     let d : t ≡ p = some_one e (along_hit q y p ms s x h) in Memᴰ.head (λ i. (a i, c i, d i)))
     (λ h. Memᴰ.tail (along_mem ms (sym (along_miss q y p ms s x h) ∙ e)))
-    (true_or_false (and (eqb q s) (eqb y x)))
+    (cases_Bool (and (eqb q s) (eqb y x)))
 
 pub along_has : (ms : List Arrow) {s x p : ℕ} → Memᴰ (s, x, p) ms → (t : ℕ) × (along ms s x ≡ some t)
 along_has [] m = absurd (Memᴰ.not-nil m)
@@ -48,7 +49,7 @@ along_has ((q, y, o) ∷ ms) {s} {x} {p} m =
     (o, along_hit q y o ms s x (and_is (eqb q s) (eqb y x) (eq-eqb q s a) (eq-eqb y x c))))
     (λ k. let (t, e) = along_has ms k in (t, along_miss q y o ms s x h ∙ e))
     (Memᴰ.cases_cons m))
-    (true_or_false (and (eqb q s) (eqb y x)))
+    (cases_Bool (and (eqb q s) (eqb y x)))
 
 pub along_none : (ms : List Arrow) (s x : ℕ) → ((p : ℕ) → Memᴰ (s, x, p) ms → ⊥) → along ms s x ≡ none
 along_none ms s x h = cases (along ms s x) refl

@@ -6,6 +6,8 @@
 //!     thing   → lamp | heater
 //!     room    → kitchen | hall
 
+use book::TableRule;
+
 /// Each symbol's spelling, at the symbol's number: ten words, then five names.
 pub const SPELLING: [&str; 15] = [
     "turn", "on", "off", "the", "lamp", "heater", "in", "kitchen", "hall", "and", "order",
@@ -52,52 +54,45 @@ pub const THING: u16 = 13;
 
 pub const ROOM: u16 = 14;
 
-/// A rule: the name `left` may be rewritten to the symbols `right`.
-#[derive(Clone, Copy)]
-pub struct Rule {
-    pub left: u16,
-    pub right: &'static [u16],
-}
-
 /// The rules, in the order in which they are added.
-pub const RULES: [Rule; 10] = [
-    Rule {
+pub const RULES: [TableRule<'static>; 10] = [
+    TableRule {
         left: ORDER,
         right: &[COMMAND],
     },
-    Rule {
+    TableRule {
         left: ORDER,
         right: &[COMMAND, AND, ORDER],
     },
-    Rule {
+    TableRule {
         left: COMMAND,
         right: &[TURN, SWITCH, THE, THING],
     },
-    Rule {
+    TableRule {
         left: COMMAND,
         right: &[TURN, SWITCH, THE, THING, IN, THE, ROOM],
     },
-    Rule {
+    TableRule {
         left: SWITCH,
         right: &[ON],
     },
-    Rule {
+    TableRule {
         left: SWITCH,
         right: &[OFF],
     },
-    Rule {
+    TableRule {
         left: THING,
         right: &[LAMP],
     },
-    Rule {
+    TableRule {
         left: THING,
         right: &[HEATER],
     },
-    Rule {
+    TableRule {
         left: ROOM,
         right: &[KITCHEN],
     },
-    Rule {
+    TableRule {
         left: ROOM,
         right: &[HALL],
     },

@@ -22,16 +22,16 @@ fn print_machine(rt: &impl Print, name: &str, table: &[u16], rows: usize) -> io:
                 "{name}: {} states, {} moves, final state {last}",
                 m.states, m.moves
             )?;
-            print_moves(rt, &moves, m.moves)
+            print_moves(rt, &moves[..m.moves.min(ROWS)])
         }
         Err(fault) => refuse(rt, name, fault),
     }
 }
 
 /// The moves on one line: the state left, the symbol, the state reached.
-fn print_moves(rt: &impl Print, moves: &[Move<StateNo>], count: usize) -> io::Result<()> {
+fn print_moves(rt: &impl Print, moves: &[Move<StateNo>]) -> io::Result<()> {
     print!(rt; " ")?;
-    for m in moves.iter().take(count) {
+    for m in moves {
         let from = m.from.0;
         let symbol = m.symbol;
         let to = m.to.0;

@@ -57,13 +57,14 @@ as_limits {K} meaning room {k} {k'} {start} ms symbols nodes arrows held rows un
     subst (λ (n : MeantNode). Answered (within (node_search (meaning k') (room k') ms symbols) (min nodes 4096) (min arrows 16384)) n (node_of held) plain_number rows unfolded r) f
     (subst (λ (l : K). Answered (within (node_search (meaning l) (room l) ms symbols) (min nodes 4096) (min arrows 16384)) start (node_of held) plain_number rows unfolded r) e a)
 
-module _ (m : Meaning) (room : Room) (ms : List Arrow) (symbols : ℕ) (nodes arrows : ℕ) (held : List Class) (rows : List Node) (unfolded : List (Move NodeNo)) where
+module _ (m : Meaning) (room : Room) (ms : List Arrow) (symbols : ℕ) (nodes arrows : ℕ) where
   pub refuses : (stop : Stop) → Refused (limits m room ms symbols nodes arrows) (first_node m) stop → UnfoldingRefusal m room ms symbols nodes arrows (refusal (fault_of stop))
   refuses (NoRoom n) r = class_unfit n r
   refuses (NoEntry n) r = node_limit n r
   refuses (NoArrow q n) r = move_limit q n r
 
-  module _ (c : Count) (a : Answered (limits m room ms symbols nodes arrows) (first_node m) (node_of held) plain_number rows unfolded (Ok c)) (n-in : c.entries ≤ length rows) (m-in : c.moves ≤ length unfolded) where
+  module _ (held : List Class) (rows : List Node) (unfolded : List (Move NodeNo)) (c : Count)
+      (a : Answered (limits m room ms symbols nodes arrows) (first_node m) (node_of held) plain_number rows unfolded (Ok c)) (n-in : c.entries ≤ length rows) (m-in : c.moves ≤ length unfolded) where
     counts : (c.entries ≤ min nodes 4096) × (c.moves ≤ min arrows 16384)
     unfolding limits
     counts = (

@@ -1,4 +1,3 @@
 pub mod Seeking
 pub mod Noding
 pub mod Answering
-pub mod Ordering

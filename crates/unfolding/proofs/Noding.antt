@@ -28,9 +28,6 @@ least_move m room ms symbols o n from (Some y) h =
 
 -- ── nodes ──
 
-row : ℕ → ℕ → Node
-row s c = record { state = record { 0 = s }; class = record { 0 = c } }
-
 row_same : (e : Node) (s c : ℕ) → e.state.0 ≡ s → class_number e ≡ c → e ≡ record { state = record { 0 = s }; class = record { 0 = c } }
 row_same e s c p q =
     ap (λ (x : ℕ). record { state = record { 0 = x }; class = record { 0 = class_number e } }) p ∙ ap (λ (x : ℕ). record { state = record { 0 = s }; class = record { 0 = x } }) q

@@ -1,5 +1,6 @@
 //! The nodes as a space to search: a node moves where its state moves, to the policy's next class.
 ghost use Rattle.std.specs.Prelude.{ℕ, List};
+ghost use Rattle.std.proofs.Common.{rules};
 ghost use Rattle.finding.specs.Numbered.{Arrow};
 ghost use Rattle.theory.specs.Unfolding.{Node as MeantNode};
 ghost use Rattle.policy.specs.Classes.{Tracks};
@@ -8,6 +9,7 @@ ghost use Rattle.unfolding.specs.Nodes.{class_number, node_of, node_search};
 
 use crate::moves::{least_symbol, target};
 use crate::node::Node;
+use finding::lookup::Rising;
 use finding::moves::Move;
 use finding::space::Space;
 use policy::stacks::{Policy, Push};
@@ -38,11 +40,13 @@ impl<'m, 'p, P: Policy> Space for Nodes<'m, 'p, P> {
     ghost ready = { λ s es. P.Policy.ready s.policy.now × Tracks class_number (P.Policy.held s.policy.now) es × Ordered (state_arrows s.moves.now) s.symbols };
 
     fn next_symbol(&self, e: Node, from: u16) -> Option<u16> {
-        least_symbol(self.moves, e.state, from)
+        let rising = Rising { moves: self.moves };
+        least_symbol(&rising, e.state, from)
     }
 
     fn reach(&mut self, e: Node, x: u16) -> Option<Node> {
-        let state = target(self.moves, e.state, x);
+        let rising = Rising { moves: self.moves };
+        let state = target(&rising, e.state, x);
         let push = Push {
             left: e.state,
             symbol: x,
@@ -51,4 +55,6 @@ impl<'m, 'p, P: Policy> Space for Nodes<'m, 'p, P> {
         let class = self.policy.next(e.class, push)?;
         Some(Node { state, class })
     }
+
+    ghost exact = { Prim.search rules };
 }

@@ -44,7 +44,7 @@ impl<'a> Flat<'a> {
         ensures reached { InOrder JumpLess (jumps_of self.now.jumps.bytes.now) → (k : ℕ) → Memᴰ (node.0, k) (jumps_of self.now.jumps.bytes.now)
             → k < 4096 → In reached.new.set.words k }
     {
-        // By number: `seek` gives the first row's number, and chunks would be cut out and read by the same two calls.
+        // By number, as `seek` gives that of the node's first row: of a chunk it would have to be shown which row it is.
         for row in self.jumps.seek(node.0, 0)..self.jumps.count() {
             let (from, to) = self.jumps.key(row);
             if from != node.0 {

@@ -1,14 +1,8 @@
-use Rattle.std.proofs.Common.{[], ◌∷◌, ◌++◌, map, sym, ap, ◌∙◌, arith}
+use Rattle.std.proofs.Common.{map, sym, ap, ◌∙◌, arith}
 use Rattle.std.specs.Int.{w16, from_le_bytes}
-use Rattle.std.proofs.lemmas.List.{take_all, take_more_set, map_more}
+use Rattle.std.proofs.lemmas.List.{take_all}
 use Rattle.book.proofs.Numbers.{numbers_pairs}
 use Rattle.book.proofs.file.read_numbers.Goals as goal
-
-pub loop-i-preserved : goal.loop-i-preserved
-loop-i-preserved c =
-    take_more_set c.loop-i.out c.loop-i.i _ (omega arith)
-    ∙ (λ j. c.loop-i.invariant j ++ (c.from_le_bytes.ensures j ∷ []))
-    ∙ sym (map_more (from_le_bytes w16) c.as_chunks.result.0.now c.loop-i.i [] c.loop-i-test.true)
 
 pub returns : goal.returns
 returns c =

@@ -3,7 +3,7 @@ use Rattle.std.proofs.lemmas.Result.{err_from_is_err_and}
 use Rattle.book.specs.Refusals.{told}
 use Rattle.book.specs.Files.{SaveFault}
 use Rattle.book.specs.Files.SaveFault.{book, short}
-use Rattle.book.proofs.Held.{known, known_bounds}
+use Rattle.book.proofs.Held.{known}
 use Rattle.book.proofs.Filed.{saved}
 use Rattle.book.proofs.file.save.Goals as goal
 
@@ -11,9 +11,6 @@ pub returns-in_err-used : goal.returns-in_err-used
 returns-in_err-used c =
     let p = err_from_is_err_and c.from_residual.result c.from_residual.ensures.1 in
     rw (p.1, p.2) (book c.in_err-used.ensures.checked, refl)
-
-pub overflow_mul-needed : goal.overflow_mul-needed
-overflow_mul-needed c = omega (arith, (known_bounds (known _ _ c.in_ok-used.ensures.checked)).0)
 
 pub returns-then-file-needed : goal.returns-then-file-needed
 returns-then-file-needed c =
@@ -25,10 +22,4 @@ returns-then-file-needed c =
     )
 
 pub returns : goal.returns
-returns c =
-    let k = known _ _ c.in_ok-used.ensures.checked in
-    let t = c.args.table.now in
-    let out = c.args.file.now in
-    let u = c.in_ok-used.field-0.used in
-    let n = 5 + 2 * u in
-    saved t out _ _ k.grammar u n k.holds k.takes refl refl c.write_file.ensures
+returns c = saved (known _ _ c.in_ok-used.ensures.checked) c.write_file.ensures

@@ -1,14 +1,15 @@
-use Rattle.std.proofs.Common.{◌-◌, length, take, sym, refl, ap, ◌∙◌, arith}
+use Rattle.std.proofs.Common.{◌-◌, length, take, refl, arith}
 use Rattle.std.proofs.lemmas.Result.{err_from_is_err_and}
 use Rattle.book.proofs.Held.{known}
 use Rattle.machine.specs.Machines.MachineRefusal.{book as bad_book}
-use Rattle.theory.specs.Flattening.{word_moves}
-use Rattle.unfolding.specs.Unfoldings.{node_arrows}
 use Rattle.compiler.specs.Compiling.CompileRefusal.{machine}
 use Rattle.flattening.proofs.Linking.{moves_rise}
 use Rattle.compiler.proofs.Accepting.{turned_down}
-use Rattle.compiler.proofs.Assembling.{words_is, ordered, built, sizes, as_machine, node_count, opened_part, part_count, part_short, part_few, part_pairs, jumps_of, to_flatten, refuses_nodes, refuses_machine, refuses_jumps, refuses_output, compiles}
+use Rattle.compiler.proofs.Assembling.{ordered, part_few, refuses_nodes, refuses_machine}
+use Rattle.compiler.proofs.Handing.{Handed, handed, not_flattened, not_written, written}
+use Rattle.compiler.proofs.compile.compile_book.Given as given
 use Rattle.compiler.proofs.compile.compile_book.Goals as goal
+use Rattle.compiler.proofs.compile.compile_book.Goals.{After-of-items}
 
 pub returns-in_err-summary : goal.returns-in_err-summary
 returns-in_err-summary g c =
@@ -30,72 +31,47 @@ returns-in_err-found g c =
     (turned_down (refuses_nodes (known _ _ c.in_ok-summary.ensures.checked) c.in_ok-machine.ensures _ _ _ c.characteristic.auto.states c.characteristic.auto.moves _
     c.in_err-found.ensures.unfolds) refl)
 
+-- what is handed on once the items of the book were read
+handed_on : (g : given.Over) (c : goal.After-of-items g)
+    → Handed c.args.book.now (g.P.Policy.meaning (g.P.Policy.kind c.args.policy.now)) (g.P.Policy.room (g.P.Policy.kind c.args.policy.now)) (record {
+      states = length c.args.work.states.now;
+      moves = length c.args.work.moves.now;
+      nodes = length c.args.work.nodes.now;
+      unfolded = length c.args.work.unfolded.now;
+      jumps = length c.args.work.jumps.now;
+      out = length c.args.out.now;
+    }) c.of-items.result (take (c.in_ok-found.found.moves - 0) c.unfold.new.unfolded) c.in_ok-summary.summary c.in_ok-machine.machine c.in_ok-found.found
+handed_on g c =
+    handed (known _ _ c.in_ok-summary.ensures.checked) c.in_ok-machine.ensures c.in_ok-found.ensures.unfolds c.of-items.ensures.words c.of-items.ensures.indexed _
+    c.characteristic.auto.states c.characteristic.auto.moves c.unfold.auto.nodes c.unfold.auto.unfolded
+
 pub invariant_of-unfolded_machine : goal.invariant_of-unfolded_machine
-invariant_of-unfolded_machine g c =
-    let k = known _ _ c.in_ok-summary.ensures.checked in
-    let mi = c.in_ok-machine.ensures in
-    record { rising = moves_rise _ _ (to_flatten k mi (as_machine k mi c.in_ok-found.ensures.unfolds) c.of-items.result c.of-items.ensures.words c.of-items.ensures.indexed) }
+invariant_of-unfolded_machine g c = record { rising = moves_rise _ _ (handed_on g (goal.at.invariant_of-unfolded_machine g c).After-of-items).unfolded }
 
 pub flatten-requires : goal.flatten-requires
-flatten-requires g c =
-    let k = known _ _ c.in_ok-summary.ensures.checked in
-    let mi = c.in_ok-machine.ensures in
-    to_flatten k mi (as_machine k mi c.in_ok-found.ensures.unfolds) c.of-items.result c.of-items.ensures.words c.of-items.ensures.indexed
+flatten-requires g c = (handed_on g (goal.at.flatten-requires g c).After-of-items).unfolded
 
 pub returns-in_err-flat : goal.returns-in_err-flat
-unfolding to_flatten
 returns-in_err-flat g c =
     let p = err_from_is_err_and c.from_residual-in_err-flat.result c.from_residual-in_err-flat.ensures.1 in
-    let k = known _ _ c.in_ok-summary.ensures.checked in
-    let mi = c.in_ok-machine.ensures in
-    let u = as_machine k mi c.in_ok-found.ensures.unfolds in
-    let un = to_flatten k mi u c.of-items.result c.of-items.ensures.words c.of-items.ensures.indexed in
-    let b = built k mi _ c.characteristic.auto.states c.characteristic.auto.moves in
-    let o = opened_part k mi u _ c.unfold.auto.nodes c.unfold.auto.unfolded in
-    rw (p.1, p.2) (turned_down (refuses_jumps b o _ _ (c.in_err-flat.ensures un)) refl)
+    let h = handed_on g (goal.at.returns-in_err-flat g c).After-of-items in
+    rw (p.1, p.2) (turned_down (not_flattened h (c.in_err-flat.ensures h.unfolded)) refl)
 
 pub slice_bounds-parts-end : goal.slice_bounds-parts-end
 slice_bounds-parts-end g c =
-    let k = known _ _ c.in_ok-summary.ensures.checked in
-    let mi = c.in_ok-machine.ensures in
-    let u = as_machine k mi c.in_ok-found.ensures.unfolds in
-    let un = to_flatten k mi u c.of-items.result c.of-items.ensures.words c.of-items.ensures.indexed in
-    omega (arith, (c.in_ok-flat.ensures un).few, c.flatten.auto.rows)
+    let h = handed_on g (goal.at.slice_bounds-parts-end g c).After-of-items in omega (arith, (c.in_ok-flat.ensures h.unfolded).few, c.flatten.auto.rows)
 
-pub write-requires : goal.write-requires
-write-requires g c =
-    let k = known _ _ c.in_ok-summary.ensures.checked in
-    let mi = c.in_ok-machine.ensures in
-    let u = as_machine k mi c.in_ok-found.ensures.unfolds in
-    let un = to_flatten k mi u c.of-items.result c.of-items.ensures.words c.of-items.ensures.indexed in
-    (part_short k mi u, part_few c.flatten.new.rows c.in_ok-flat.flat.jumps 16384 (omega (arith, (c.in_ok-flat.ensures un).few)))
+pub invariant_of-parts : goal.invariant_of-parts
+invariant_of-parts g c =
+    let h = handed_on g (goal.at.invariant_of-parts g c).After-of-items in
+    record { few = (h.few, part_few c.flatten.new.rows c.in_ok-flat.flat.jumps 16384 (omega (arith, (c.in_ok-flat.ensures h.unfolded).few))) }
 
 pub returns-in_err-write : goal.returns-in_err-write
-unfolding to_flatten
 returns-in_err-write g c =
     let p = err_from_is_err_and c.from_residual-in_err-write.result c.from_residual-in_err-write.ensures.1 in
-    let k = known _ _ c.in_ok-summary.ensures.checked in
-    let mi = c.in_ok-machine.ensures in
-    let u = as_machine k mi c.in_ok-found.ensures.unfolds in
-    let un = to_flatten k mi u c.of-items.result c.of-items.ensures.words c.of-items.ensures.indexed in
-    let b = built k mi _ c.characteristic.auto.states c.characteristic.auto.moves in
-    let o = opened_part k mi u _ c.unfold.auto.nodes c.unfold.auto.unfolded in
-    let f = c.in_ok-flat.ensures un in
+    let h = handed_on g (goal.at.returns-in_err-write g c).After-of-items in
     let w = c.in_err-write.ensures in
-    rw (p.1, p.2)
-    (turned_down (refuses_output _ b o c.in_ok-flat.flat.final_node f.flat.final_is _ (jumps_of f.flat) (omega (arith, f.jumps_counted, f.few))
-    _ _ _ (words_is k mi) (node_count k mi u) (part_pairs c.flatten.new.rows c.in_ok-flat.flat.jumps _ refl) _ refl _ w.0 w.1) w.2)
+    rw (p.1, p.2) (turned_down (not_written h (c.in_ok-flat.ensures h.unfolded) _ refl w.0 w.1) w.2)
 
 pub returns : goal.returns
-unfolding to_flatten
-returns g c =
-    let k = known _ _ c.in_ok-summary.ensures.checked in
-    let mi = c.in_ok-machine.ensures in
-    let u = as_machine k mi c.in_ok-found.ensures.unfolds in
-    let un = to_flatten k mi u c.of-items.result c.of-items.ensures.words c.of-items.ensures.indexed in
-    let b = built k mi _ c.characteristic.auto.states c.characteristic.auto.moves in
-    let o = opened_part k mi u _ c.unfold.auto.nodes c.unfold.auto.unfolded in
-    let f = c.in_ok-flat.ensures un in
-    compiles _ b o c.in_ok-flat.flat.final_node f.flat.final_is _ (jumps_of f.flat) (omega (arith, f.jumps_counted, f.few))
-    _ _ _ (words_is k mi) (node_count k mi u) (part_pairs c.flatten.new.rows c.in_ok-flat.flat.jumps _ refl) _ _ _ c.in_ok-write.ensures _
-    (sizes k mi).0 (sizes k mi).1 (sym (node_count k mi u)) (sym (part_count k mi u)) (f.arcs_counted ∙ ap (λ w. length (word_moves w (node_arrows (take (c.in_ok-found.found.moves - 0) c.unfold.new.unfolded)))) (words_is k mi)) f.jumps_counted
+returns g c = let h = handed_on g (goal.at.returns g c).After-of-items in written h (c.in_ok-flat.ensures h.unfolded) c.in_ok-write.ensures

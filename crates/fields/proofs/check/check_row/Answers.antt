@@ -1,18 +1,16 @@
 use Rattle.std.proofs.Common.{refl, arith}
-use Rattle.std.proofs.lemmas.Result.{err_from_is_err_and}
 use Rattle.std.proofs.lemmas.Bool.{false≢true}
 use Rattle.std.proofs.ByRecursion.{All-append}
 use Rattle.fields.specs.Flaws.{Passes, fields}
 use Rattle.fields.specs.Flaws.Fault.{wrong}
 use Rattle.fields.specs.Flaws.First.{here}
-use Rattle.fields.proofs.Judging.{first_left, first_right, fields_there}
+use Rattle.fields.proofs.Judging.{passed_on, first_left, first_right, fields_there}
 use Rattle.fields.proofs.check.check_row.Goals as goal
 use Rattle.fields.proofs.check.check_row.Goals.{else-at-start-via-then-at-start+else-not-row_rises, else-at-start-via-else-at-start}
 
 pub returns-in_err-check_fields : goal.returns-in_err-check_fields
 returns-in_err-check_fields c =
-    let p = err_from_is_err_and c.from_residual.result c.from_residual.ensures.1 in
-    rw (p.1, p.2) (first_left c.args.file.now c.in_err-check_fields.ensures _)
+    rw (passed_on c.from_residual.ensures.1) (first_left c.args.file.now c.in_err-check_fields.ensures _)
 
 pub row_rises-requires : goal.row_rises-requires
 row_rises-requires c =

@@ -1,13 +1,12 @@
 use Rattle.std.proofs.Common.{refl, ◌∙◌, arith}
-use Rattle.std.proofs.lemmas.Result.{err_from_is_err_and}
+use Rattle.fields.proofs.Judging.{passed_on}
 use Rattle.pga.specs.Listing.ListRefused.{no_file}
 use Rattle.pga.proofs.Listed.{text_short}
 use Rattle.pga.proofs.listing.list.Goals as goal
 
 pub returns-in_err-header : goal.returns-in_err-header
 returns-in_err-header c =
-    let p = err_from_is_err_and c.from_residual.result c.from_residual.ensures.1 in
-    rw (p.1, p.2) (no_file c.in_err-header.ensures.checked, refl)
+    rw (passed_on c.from_residual.ensures.1) (no_file c.in_err-header.ensures.checked, refl)
 
 pub returns-then-out-place : goal.returns-then-out-place
 returns-then-out-place c =

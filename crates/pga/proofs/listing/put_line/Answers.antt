@@ -6,7 +6,7 @@ use Rattle.pga.proofs.Text.{parted, parted_more, parted_line, length_parted}
 use Rattle.pga.proofs.listing.put_line.Goals as goal
 
 pub put_next-requires : goal.put_next-requires
-put_next-requires c = omega (arith, c.loop-i.invariant.put.ends, length_parted c.args.numbers.now c.loop-i.i (λ k. omega (arith, c.type_inv.numbers k)))
+put_next-requires c = omega (arith, length_parted c.args.numbers.now c.loop-i.i (λ k. omega (arith, c.type_inv.numbers k)))
 
 pub loop-i-preserved : goal.loop-i-preserved
 loop-i-preserved c =
@@ -14,7 +14,7 @@ loop-i-preserved c =
     subst (λ t. Puts c.args.out.now t c.put_next.new.out) (sym more) (puts_then _ _ _ _ _ c.loop-i.invariant c.put_next.ensures)
 
 pub byte-requires : goal.byte-requires
-byte-requires c = omega (arith, c.loop-i.invariant.put.ends, length_parted c.args.numbers.now c.loop-i.i (λ k. omega (arith, c.type_inv.numbers k)))
+byte-requires c = omega (arith, length_parted c.args.numbers.now c.loop-i.i (λ k. omega (arith, c.type_inv.numbers k)))
 
 pub returns-clause-puts : goal.returns-clause-puts
 returns-clause-puts c =
@@ -24,4 +24,4 @@ returns-clause-puts c =
 
 pub returns-clause-short : goal.returns-clause-short
 returns-clause-short c =
-    omega (arith, c.loop-i.invariant.put.ends, c.byte.ensures.put.ends, length_parted c.args.numbers.now c.loop-i.i (λ k. omega (arith, c.type_inv.numbers k)))
+    omega (arith, length_parted c.args.numbers.now c.loop-i.i (λ k. omega (arith, c.type_inv.numbers k)))

@@ -14,11 +14,6 @@ put_rows-requires-2-clause-few c =
     let long = s.long in
     (omega arith, s.few_jumps, omega arith)
 
-pub put_rows-requires-2-clause-room : goal.put_rows-requires-2-clause-room
-put_rows-requires-2-clause-room c =
-    let few = (sizes c.args.file.now c.args.header c.requires.sound).few_arcs in
-    omega (arith, few, c.put_rows.ensures.short, c.put_line.ensures.short)
-
 pub returns : goal.returns
 returns c =
     text_puts c.args.counts c.args.file.now c.args.header (sizes c.args.file.now c.args.header c.requires.sound)

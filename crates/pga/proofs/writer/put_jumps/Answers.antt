@@ -12,7 +12,6 @@ numbers-requires c =
     let js = c.args.jumps.now in let i = c.loop-j.j-index in
     omega (
       arith,
-      c.loop-j.invariant.put.ends,
       length_jump_bytes (pairs (take i js)),
       length-map (take i js) pair,
       length-take-le i js (omega arith),

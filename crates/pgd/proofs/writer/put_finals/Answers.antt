@@ -8,7 +8,7 @@ use Rattle.pgd.proofs.writer.put_finals.Goals as goal
 pub byte-requires : goal.byte-requires
 byte-requires c =
     let rows = c.args.rows.now in let i = c.loop-row.row-index in
-    omega (arith, c.loop-row.invariant.put.ends, length_rows_bytes c.args.final_node (take i rows), length-take-le i rows (omega arith))
+    omega (arith, length_rows_bytes c.args.final_node (take i rows), length-take-le i rows (omega arith))
 
 pub loop-row-preserved : goal.loop-row-preserved
 loop-row-preserved c =

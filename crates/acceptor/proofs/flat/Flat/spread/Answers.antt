@@ -9,21 +9,12 @@ pub loop-reached-init : goal.loop-reached-init
 loop-reached-init c = λ fit. spreading_none (acceptor_of c.args.self.now) c.args.set.words
 
 pub loop-reached-smaller : goal.loop-reached-smaller
-loop-reached-smaller c =
-    let now = c.loop-reached.reached in
-    let next = c.take_wave.new.reached in
-    wave_falls now.set.words now.fresh.words next.set.words next.fresh.words c.take_wave.ensures now.set.row next.set.row (omega arith)
+loop-reached-smaller c = wave_falls c.take_wave.ensures c.loop-reached.reached.set.row c.take_wave.new.reached.set.row (omega arith)
 
 pub loop-reached-preserved : goal.loop-reached-preserved
 loop-reached-preserved c = λ fit.
-    let f = acceptor_of c.args.self.now in
-    let now = c.loop-reached.reached in
-    let next = c.take_wave.new.reached in
-    spreading_more f c.args.set.words now.set.words now.fresh.words (c.loop-reached.invariant fit) next.set.words next.fresh.words c.take_wave.ensures
-    fit.jumps_rise (small_jumps f fit)
+    spreading_more (c.loop-reached.invariant fit) c.take_wave.ensures fit.jumps_rise (small_jumps (acceptor_of c.args.self.now) fit)
 
 pub returns : goal.returns
 returns c = λ fit.
-    let now = c.loop-reached.reached in
-    spread_all (acceptor_of c.args.self.now) c.args.set.words now.set.words now.fresh.words (c.loop-reached.invariant fit)
-    (no_member now.fresh.words now.fresh.row (omega arith))
+    let fresh = c.loop-reached.reached.fresh in spread_all (c.loop-reached.invariant fit) (no_member fresh.words fresh.row (omega arith))

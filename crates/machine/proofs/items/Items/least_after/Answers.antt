@@ -10,7 +10,7 @@ use Rattle.machine.proofs.items.Items.least_after.Goals as goal
 pub returns : goal.returns
 returns c =
     let after = c.args.self.now.after in
-    least_after after c.args.set.now.words c.args.from c.min.result c.args.set.now.row
+    least_after after c.args.set.now.words c.args.from c.args.set.now.row c.min.result
     (sym (option_map_id c.min.result)
     ∙ min_from_yields_List _ _ c.min.ensures.ran
     (YieldsList-from_filter _ (leb c.args.from)

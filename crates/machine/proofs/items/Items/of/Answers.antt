@@ -20,18 +20,17 @@ loop-rule-init c =
 
 pub overflow_sub-name : goal.overflow_sub-name
 overflow_sub-name c =
-    let n = named c.loop-rule.invariant.1 c.in-Some.rule.left c.in-Some.rule.right.now _ c.in-Some.ensures.steps in
+    let n = named c.loop-rule.invariant.1 c.in-Some.ensures.steps in
     let e = c.from.ensures in omega (arith, n.0)
 
 pub add_rule-requires-clause-room : goal.add_rule-requires-clause-room
 add_rule-requires-clause-room c =
-    let w = c.loop-rule.invariant.1 in
-    let n = named w c.in-Some.rule.left c.in-Some.rule.right.now _ c.in-Some.ensures.steps in
-    let e = c.from.ensures in (omega (arith, n.1), room w c.in-Some.rule.left c.in-Some.rule.right.now _ c.in-Some.ensures.steps)
+    let n = named c.loop-rule.invariant.1 c.in-Some.ensures.steps in
+    let e = c.from.ensures in (omega (arith, n.1), room c.loop-rule.invariant.1 c.in-Some.ensures.steps)
 
 pub overflow_add-first-in-loop-rule : goal.overflow_add-first-in-loop-rule
 overflow_add-first-in-loop-rule c =
-    omega (arith, room c.loop-rule.invariant.1 c.in-Some.rule.left c.in-Some.rule.right.now _ c.in-Some.ensures.steps)
+    omega (arith, room c.loop-rule.invariant.1 c.in-Some.ensures.steps)
 
 pub loop-rule-preserved : goal.loop-rule-preserved
 loop-rule-preserved c =
@@ -43,9 +42,9 @@ loop-rule-preserved c =
     let words = c.args.book.words in
     let head = c.loop-rule.items.head in (
       now.words ∙ i.0,
-      fill_more i.1 left right _ c.in-Some.ensures.steps _ _ _ now.after
+      fill_more i.1 c.in-Some.ensures.steps _ _ _ now.after
           (now.next ∙ ap (λ l. set c.loop-rule.items.next first (get_or head (l - words) 0)) c.from.ensures) (now.head ∙ ap (λ l. set head (l - words) first) c.from.ensures),
-      (λ n. subst (λ (h : List ℕ). get_or h n 0 < first + (length right + 1)) (sym now.head) (set_below head _ _ _ (omega arith) (λ m. let h = i.2 m in omega arith) n)),
+      (λ n. subst (λ (h : List ℕ). get_or h n 0 < first + (length right + 1)) (sym now.head) (set_below head _ _ _ (let l = i.1.heads in let n = named i.1 c.in-Some.ensures.steps in omega (arith, n.1)) (omega arith) (λ m. let h = i.2 m in omega arith) n)),
     )
 
 pub returns-clause-indexed : goal.returns-clause-indexed

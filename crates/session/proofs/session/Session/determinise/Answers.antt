@@ -13,10 +13,10 @@ pub returns-in_err-counts : goal.returns-in_err-counts
 returns-in_err-counts c =
     let p = err_from_is_err_and c.from_residual.result c.from_residual.ensures.1 in
     rw (p.1, p.2)
-    (determinise_answers (view c.args.self.now) (view c.take.new.self) c.if-not-self.false c.take.ensures _ (Err c.in_err-counts.field-0.0) _ _ _ _
-    refl c.file.ensures (ap (λ r. r.now) c.replace-out.ensures.value) c.in_err-counts.ensures c.determinise-answer.auto.out)
+    (determinise_answers (view c.args.self.now) (view c.take.new.self) (Err c.in_err-counts.field-0.0) c.if-not-self.false c.take.ensures refl
+    c.file.ensures (ap (λ r. r.now) c.replace-out.ensures.value) c.in_err-counts.ensures c.determinise-answer.auto.out)
 
 pub returns : goal.returns
 returns c =
-    determinise_answers (view c.args.self.now) (view c.take.new.self) c.if-not-self.false c.take.ensures _ (Ok c.in_ok-counts.counts) _ _ _ _
-    refl c.file.ensures (ap (λ r. r.now) c.replace-out.ensures.value) c.in_ok-counts.ensures c.determinise-answer.auto.out
+    determinise_answers (view c.args.self.now) (view c.take.new.self) (Ok c.in_ok-counts.counts) c.if-not-self.false c.take.ensures refl
+    c.file.ensures (ap (λ r. r.now) c.replace-out.ensures.value) c.in_ok-counts.ensures c.determinise-answer.auto.out

@@ -17,7 +17,7 @@ pub returns-in_default : goal.returns-in_default
 returns-in_default c =
     let f = c.in_ok-check.ensures in
     let a = c.in_default.ensures in
-    answers (λ i. no_place f.0 f.1 a.added.0 (moved_to (view c.args.self.now) _ _ _ a.added.1 a.places))
+    answers (λ i. no_place f.0 f.1 a.added.0 (moved_to (view c.args.self.now) a.added.1 a.places))
 
 pub returns : goal.returns
 returns c =

@@ -1,4 +1,4 @@
-use Rattle.std.proofs.Common.{◌≡◌, ℕ, sym, ap, subst, arith, eq-eqb, eqb-true, ltb-true}
+use Rattle.std.proofs.Common.{sym, ap, ◌∙◌, arith, eq-eqb, eqb-true, ltb-true}
 use Rattle.table.specs.Sets.{In, bit_of}
 use Rattle.table.proofs.Rows.{in_below}
 use Rattle.table.proofs.sets.NumberSet.has.Goals as goal
@@ -11,4 +11,4 @@ pub returns-then-k-lt4096 : goal.returns-then-k-lt4096
 unfolding In
 returns-then-k-lt4096 g c =
     let same = ap (bit_of c.args.self.now.words) c.index-k.ensures.value in
-    ((λ e. subst (λ (x : ℕ). x ≡ 1) same (eqb-true _ 1 e)), (λ m. eq-eqb _ 1 (subst (λ (x : ℕ). x ≡ 1) (sym same) m)))
+    ((λ e. sym same ∙ eqb-true _ 1 e), (λ m. eq-eqb _ 1 (same ∙ m)))
