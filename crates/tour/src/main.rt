@@ -8,6 +8,7 @@ mod machines;
 mod making;
 mod refusing;
 mod remembering;
+mod spelling;
 mod telling;
 
 use std::io;
@@ -23,6 +24,7 @@ fn main(rt: HostRuntime) -> io::Result<()> {
     let mut file = [0; BYTES];
     making::chapter(&rt, &mut table)?;
     looking::chapter(&rt, &table)?;
+    spelling::chapter(&rt)?;
     filing::chapter(&rt, &table, &mut file)?;
     machines::chapter(&rt, &table)?;
     remembering::chapter(&rt)?;

@@ -1,0 +1,4 @@
+pub mod Reading
+pub mod Equality
+pub mod Numbering
+pub mod Unique

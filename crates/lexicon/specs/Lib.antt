@@ -1,0 +1,4 @@
+pub mod Spellings
+pub mod Padding
+pub mod Refusals
+pub mod Lexicons
