@@ -43,7 +43,7 @@ fn write_rule(table: &mut [u16], at: usize, left: u16, right: &[u16])
     table[at + 2..end].copy_from_slice(right);
 }
 
-// Left and right side one by one: a rule of both would be made anew for each call.
+// Left and right side one by one, as most callers have them: a rule of both would mostly be made for the call.
 
 /// Appends the rule that rewrites `left` to `right`; the length used.
 pub fn add(table: &mut [u16], left: u16, right: &[u16]) -> Result<usize, BookFault>

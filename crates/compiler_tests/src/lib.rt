@@ -74,7 +74,7 @@ const NESTED: Counts = Counts {
 };
 
 /// Tables too short by one or empty, and the refusal of each.
-// Beside determinise's tests: each list and each `refuses` has the tables of its own call, and what is alike is that they are lists.
+// Beside determinise's tests: each list has the tables of its own call, and one `refuses` for both would be given what it calls, for a dozen lines.
 const SHORT: [(Rows, u8, u8, usize); 11] = [
     (Rows { states: 4, ..EXACT }, 10, 2, 4),
     (Rows { states: 0, ..EXACT }, 10, 2, 0),

@@ -62,7 +62,7 @@ const NESTED_OUT: [u8; 39] = [
 ];
 
 /// Tables and outputs too short by one or empty, and the refusal of each.
-// Beside compile's tests: each list and each `refuses` has the tables of its own call, and what is alike is that they are lists.
+// Beside compile's tests: each list has the tables of its own call, and one `refuses` for both would be given what it calls, for a dozen lines.
 const SHORT: [(Rows, u8, usize); 9] = [
     (Rows { states: 2, ..EXACT }, 18, 2),
     (Rows { states: 1, ..EXACT }, 18, 1),

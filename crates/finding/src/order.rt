@@ -9,7 +9,7 @@ use crate::space::Space;
 use table::entries::Table;
 use table::numbers::Number;
 
-// Space, tables and count are passed one by one, and each function asks that the rows are few. Tried in part: methods of a struct with the three references would
+// Space, tables and count are passed one by one, and each function asks that the rows or their limit are few. Tried in part: methods of a struct with the three references would
 // have to promise, beside all that stands here, that each reference is kept and each table keeps its length, which parameters show by themselves.
 
 /// Takes the move of entry `i` on the symbol `x`.

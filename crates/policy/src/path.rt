@@ -50,8 +50,8 @@ impl Path {
         ensures { LinkAfter (entries self.now.links) class.0 reached.0 result }
     {
         let mut at = class;
-        // A loop from link to link: the library's `successors` says nothing of when its walk ends. Each link tells the next by number, since links lie in fixed
-        // memory and a class is a number.
+        // A loop from link to link: of a walk by the library's `successors` a chain does not know that it ends. Each link tells the next by number, since links
+        // lie in fixed memory and a class is a number.
         loop {
             let link = self.links.get(at)?;
             if link.state == reached {

@@ -78,7 +78,7 @@ impl<'book, 'pga, 'pgd, 'turns> Session<'book, 'pga, 'pgd, 'turns> {
         add_rule(self.book, left, right)
     }
 
-    // An arm for each kind: the two buffers are lent for lifetimes of their own, and each kind has its own check.
+    // An arm for each kind, which are kinds of data and no steps: the two buffers are lent for lifetimes of their own, and each kind has its own check.
 
     /// The file of a kind is now open, or no longer.
     fn set_open(&mut self, kind: Kind, is_open: bool)
