@@ -87,7 +87,7 @@ module _ (bytes : List ℕ) where
   )
 
 -- those of a part of the bytes
-part_finals : (bytes part : List ℕ) (start m : ℕ) → part ≡ take m (drop start bytes) → start + m ≤ length bytes → finals_of part ≡ finals_from bytes start m
+pub part_finals : (bytes part : List ℕ) (start m : ℕ) → part ≡ take m (drop start bytes) → start + m ≤ length bytes → finals_of part ≡ finals_from bytes start m
 part_finals bytes part start m is h =
     ap (finals_from part 0) (part_length bytes part start m is h)
     ∙ made_same (λ k. final_flag_at part (0 + k)) (λ k. final_flag_at bytes (start + k)) m

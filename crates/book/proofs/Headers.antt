@@ -14,7 +14,7 @@ pub sound_more : (Right : ℕ → Type 0) (es : List ℕ) (i : ℕ) → SoundTo 
 sound_more Right es i s p r j h =
     ⊎_elim (λ l. s j l) (λ l. let e : i ≡ j = omega arith in (omega arith, subst Right e r)) (cases_lt j i)
 
-header_fault : (es : List ℕ) (i least most : ℕ) {f : BookFault} → i < 4 → SoundTo (InRange es) es i → (InRange es i → (least ≤ get_or es i 0) × (get_or es i 0 ≤ most))
+pub header_fault : (es : List ℕ) (i least most : ℕ) {f : BookFault} → i < 4 → SoundTo (InRange es) es i → (InRange es i → (least ≤ get_or es i 0) × (get_or es i 0 ≤ most))
     → Between es i least most (Err f) → HeaderFault es (refusal f)
 header_fault es i least most below before bounds b =
     ⊎_elim

@@ -19,3 +19,13 @@ right_decides w xs r h d = (
       (let step : (length xs - 1) + 1 ≡ length xs = omega arith in
       sym (take_all (length xs) xs (omega arith)) ∙ ap (λ n. take n xs) (sym step) ∙ take_more xs (length xs - 1) 0 (omega arith)))),
 )
+
+-- a side of one symbol at most is of both sorts
+
+pub left_short : (w : ℕ) (xs : List ℕ) → length xs < 2 → LeftSide w xs
+left_short w xs h x [] e = tt
+left_short w xs h x (y ∷ ys) e = absurd (omega (arith, ap length e))
+
+pub right_short : (w : ℕ) (xs : List ℕ) → length xs < 2 → RightSide w xs
+right_short w xs h x [] e = tt
+right_short w xs h x (y ∷ ys) e = absurd (omega (arith, ap length e, length_push (y ∷ ys) x))

@@ -35,11 +35,12 @@ impl Entries for AppendedEntries<'_> {
     ghost entries = { λ s. s.book.now ++ (s.left ∷ (length s.right.now ∷ s.right.now)) };
 
     fn entry(&self, i: usize) -> Option<usize> {
-        match i.checked_sub(self.book.len()) {
+        // The right side first: most entries that are asked for are its symbols.
+        match i.checked_sub(self.book.len() + 2) {
+            Some(k) => self.right.get(k).copied().map(usize::from),
+            None if i > self.book.len() => Some(self.right.len()),
+            None if i == self.book.len() => Some(usize::from(self.left)),
             None => self.book.get(i).copied().map(usize::from),
-            Some(0) => Some(usize::from(self.left)),
-            Some(1) => Some(self.right.len()),
-            Some(k) => self.right.get(k - 2).copied().map(usize::from),
         }
     }
 }

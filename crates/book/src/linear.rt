@@ -1,5 +1,5 @@
 //! Whether a grammar is left-linear or right-linear: then the compiled filter is exact.
-ghost use Rattle.std.specs.Prelude.{◌<◌, Decides};
+ghost use Rattle.std.specs.Prelude.{◌≡◌, ◌<◌, true, Decides};
 ghost use Rattle.std.specs.List.{AllByRecursion};
 ghost use Rattle.book.specs.Shapes.{LeftSide, RightSide, Shaped};
 
@@ -41,14 +41,37 @@ fn right_side(side: &[u16], words: usize) -> bool
     }
 }
 
+impl Linearity {
+    /// Both facts once one more right side is looked at.
+    fn with(self, side: &[u16], words: usize) -> Linearity
+        ensures left { Decides result.left ((self.left ≡ true) × LeftSide words side.now) }
+        ensures right { Decides result.right ((self.right ≡ true) × RightSide words side.now) }
+    {
+        Linearity {
+            left: self.left && left_side(side, words),
+            right: self.right && right_side(side, words),
+        }
+    }
+}
+
 /// Whether all rules are left-linear, and whether all are right-linear.
 pub fn shape(table: &[u16]) -> Result<Linearity, BookFault>
     ensures { Shaped table.now result }
 {
     let book = check(table)?;
-    let words = book.words;
-    Ok(Linearity {
-        left: Rules::of(table, book).all(|rule| left_side(rule.right, words)),
-        right: Rules::of(table, book).all(|rule| right_side(rule.right, words)),
-    })
+    let mut shape = Linearity {
+        left: true,
+        right: true,
+    };
+    for rule in Rules::of(table, book) {
+        // A right side of one symbol at most leaves both facts as they are.
+        if rule.right.len() < 2 {
+            continue;
+        }
+        shape = shape.with(rule.right, book.words);
+        if !shape.left && !shape.right {
+            return Ok(shape);
+        }
+    }
+    Ok(shape)
 }

@@ -41,5 +41,5 @@ impl Space for NodeSets<'_> {
         Some(self.flat.word_set(&e, x))
     }
 
-    ghost exact = { set_exact };
+    ghost exact = { λ s es r. set_exact };
 }

@@ -99,9 +99,9 @@ fn row_rises(file: &[u8], before: usize, at: usize) -> bool
     requires { (before + 4 ≤ length file.now) × (at + 4 ≤ length file.now) }
     ensures { Decides result (RowRises file.now before at) }
 {
-    let old = (number_at(file, before), number_at(file, before + 2));
-    let new = (number_at(file, at), number_at(file, at + 2));
-    old < new
+    let old = number_at(file, before);
+    let new = number_at(file, at);
+    old < new || old == new && number_at(file, before + 2) < number_at(file, at + 2)
 }
 
 /// The row at `at`: each number below its limit, and unless it is the first, at `start`, it rises over the row before it.

@@ -59,6 +59,10 @@ module _ {A : Type 0} {w : Bounded A} where
   turn_distinct {p} d (new t l h r e m) = distinct_push p.entries t d h
   turn_distinct d (next i x) = d
 
+  pub turns_distinct : {p q : Place A} → Distinct p.entries → Turns w p q → Distinct q.entries
+  turns_distinct d stay = d
+  turns_distinct d (more f t) = turn_distinct (turns_distinct d f) t
+
   stopped_stuck : {p : Place A} {s : Stop} → Stopped w p s → (q : Place A) → Turn w p q → ⊥
   stopped_stuck (no_room t l h n) q (pass a s b g) = leads_rests l s g
   stopped_stuck (no_room t l h n) q (old t' j l' h' m) = moves_on l l' h j h'
@@ -96,6 +100,15 @@ module _ {A : Type 0} {w : Bounded A} where
 
   both : {start : A} {p q : Place A} → Turns w (place (start ∷ []) [] 0 0) p → ((s : Place A) → Turn w p s → ⊥) → Turns w (place (start ∷ []) [] 0 0) q → ((s : Place A) → Turn w q s → ⊥) → p ≡ q
   both {start} f x g y = ahead_same (distinct_one start) (ahead f here) x (ahead g here) y
+
+  pub whole_distinct : {start : A} {es : List A} {ms : List Arrow₃} → Whole w start es ms → Distinct es
+  whole_distinct {start} f = turns_distinct (distinct_one start) f.1
+
+  -- one numbering at most
+  pub whole_same : {start : A} {es es' : List A} {ms ms' : List Arrow₃} → Whole w start es ms → Whole w start es' ms' → (es ≡ es') × (ms ≡ ms')
+  whole_same {es = es} {es'} {ms} {ms'} f g =
+      let e = both f.1 (ended_stuck es ms) g.1 (ended_stuck es' ms') in
+      (ap (λ (p : Place A). p.entries) e, ap (λ (p : Place A). p.moves) e)
 
   stopped_same : {p : Place A} {s s' : Stop} → Stopped w p s → Stopped w p s' → s ≡ s'
   stopped_same (no_room t l h n) (no_room t' l' h' n') = refl

@@ -112,7 +112,7 @@ module _ {E A N : Type 0} {s : Search A} {f f' : E → A} {ready' : List E → T
           (subst (λ l. Turn B P (place (es ++ (t ∷ [])) l i (x + 1))) (written (ap (λ y. (i, x, y)) size ∙ sym q))
           (new t leads l.0 l.1 (omega (arith, size)) (omega (arith, sizes))))
 
-      moved : {rows' : List E} {to k : ℕ} → FoundOrAdded rows n a (Some to) rows' k → arrow v w ≡ (i, x, to)
+      pub moved : {rows' : List E} {to k : ℕ} → FoundOrAdded rows n a (Some to) rows' k → arrow v w ≡ (i, x, to)
           → Moved s f f' v ready' rows rows' moves (set moves m w) found i x (record { entries = k; moves = m + 1 })
       moved {to = to} (f_old st) q =
           record {

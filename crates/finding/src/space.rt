@@ -37,6 +37,6 @@ pub trait Space {
         ensures source { source self.new ≡ source self.old }
         ensures answer { (es : List Self.Entry) (k : ℕ) (t : Thing) → ready self.old es → StandsAt es k e → (sought (source self.old)).step (thing self.old e) x ≡ some t → Reached (thing self.old) (thing self.new) (ready self.new) (sought (source self.old)).room es t result };
 
-    /// the equality of entries is exact
-    ghost exact: { Exact (λ x' y' r'. r' ≡ Self.Entry.PartialEq.eq x' y') };
+    /// where the space stands ready, the equality of entries is exact
+    ghost exact: { (s : Self) (es : List Self.Entry) → ready s es → Exact (λ x' y' r'. r' ≡ Self.Entry.PartialEq.eq x' y') };
 }

@@ -1,17 +1,18 @@
 -- The jumps that the rules of a name give, rule by rule.
-use Rattle.std.proofs.Common.{◌≡◌, ℕ, ◌-◌, ◌⊎◌, ◌↔◌, List, [], ◌∷◌, get_or, sym, refl, ap, ◌∙◌, subst, inl, inr, ⊎_elim}
+use Rattle.std.proofs.Common.{◌≡◌, ℕ, ◌-◌, ◌<◌, ◌⊎◌, ◌↔◌, List, [], ◌∷◌, get_or, sym, refl, ap, ◌∙◌, subst, inl, inr, ⊎_elim, arith}
 use mathlib.Core.List.Memᴰ
 use mathlib.Core.List.{Memᴰ}
 use Rattle.table.specs.declared.numbers.NodeNo.{NodeNo}
 use Rattle.finding.specs.Numbered.{Arrow}
 use Rattle.machine.specs.declared.items.Items.{Items}
 use Rattle.machine.specs.Index.{links}
-use Rattle.machine.proofs.Links.{links_chain}
+use Rattle.machine.proofs.Links.{links_chain, chain_head}
 use Rattle.flattening.specs.declared.jump.Jump.{Jump}
 use Rattle.flattening.specs.declared.kept.JumpTable.{JumpTable}
 use Rattle.flattening.specs.Orders.{pair}
 use Rattle.flattening.specs.Keeping.{Keeps}
-use Rattle.flattening.specs.Walks.{Ends, Opened, Gives, PutMore}
+use Rattle.flattening.specs.Walks.{Spells, Ends, Opened, Gives, PutMore}
+use Rattle.flattening.specs.Walks.Spells.{end, more}
 use Rattle.flattening.proofs.Tables.{jump_same}
 
 -- `rest` is left of the rules; with what these give, the table has what was found and what all of them give
@@ -21,10 +22,17 @@ pub record PutTo (items : Items) (moves : List Arrow) (m : Arrow) (found : List 
   pub keeps : Keeps jumps t
   pub are : (j : Jump) → (Memᴰ j jumps ⊎ Gives items.after moves m rest (pair j)) ↔ (Memᴰ j found ⊎ Gives items.after moves m numbers (pair j))
 
+-- a right side is spelt from an item on
+spelt_below : {after : List ℕ} {k : ℕ} {xs : List ℕ} → Spells after k xs → k < 4096
+spelt_below (end h e) = h
+spelt_below (more h e b s) = h
+
 pub put_start : (items : Items) (moves : List Arrow) (m : Arrow) (found : List Jump) (t : JumpTable) (o : Opened items moves m) → Keeps found t
     → PutTo items moves m found o.numbers (links items.next (get_or items.head (m.1 - items.words) 0)) t
 put_start items moves m found t o k =
-    subst (λ rest. PutTo items moves m found o.numbers rest t) (sym (links_chain o.chain))
+    let head = get_or items.head (m.1 - items.words) 0 in
+    let here : head < 4096 = ⊎_elim (λ z. omega (arith, z)) (λ n. spelt_below (o.ends head n).1.spells) (chain_head o.chain) in
+    subst (λ rest. PutTo items moves m found o.numbers rest t) (sym (links_chain here o.chain))
     (record { ends = o.ends; jumps = found; keeps = k; are = λ j. ((λ h. h), (λ h. h)) })
 
 module _ (items : Items) (moves : List Arrow) (m : Arrow) (found : List Jump) (numbers : List ℕ) (k : ℕ) (left : List ℕ) (t : JumpTable) (at : PutTo items moves m found numbers (k ∷ left) t) where

@@ -88,7 +88,7 @@ module _ {t : List ℕ} {room moves-room : ℕ} {rows : List (NumberSet ItemNo)}
     laws : MachineLaws g (sets c.entries rows) (arrows c.moves moves)
     laws = machine_laws g (fit_sound g s.held.fit) is_machine
 
-    counts : (c.entries ≤ min room 1024) × (c.moves ≤ min moves-room 16384)
+    pub counts : (c.entries ≤ min room 1024) × (c.moves ≤ min moves-room 16384)
     unfolding limits
     counts = (
       omega (arith, s.answer.fits.few, length-map (take c.entries rows) thing, length-take-le c.entries rows n-in),

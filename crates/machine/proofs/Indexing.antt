@@ -20,6 +20,7 @@ use Rattle.theory.specs.Items.Numbers.{added, ruled}
 use Rattle.theory.proofs.Items.{dotted_only, dotted_at, dotted_below, below_dotted}
 use Rattle.machine.specs.Index.{follower, Chain, Passes, FirstAmong, IndexedTo, FirstOf, Indexed}
 use Rattle.machine.specs.Index.Chain.{end, link}
+use Rattle.machine.proofs.Links.{chain_head}
 
 -- a rule's items, by what follows their dots
 
@@ -51,10 +52,6 @@ chain_keeps next at v (link {k = k} {ks = ks} h f c) apart =
     link h (omega (arith, e)) (subst (λ j. Chain (set next at v) j ks) (sym e) (chain_keeps next at v c (λ j m. apart j (Memᴰ.tail m))))
 
 -- where a chain begins
-
-chain_head : {next : List ℕ} {k : ℕ} {ks : List ℕ} → Chain next k ks → (k ≡ 0) ⊎ Memᴰ k ks
-chain_head end = inl refl
-chain_head (link h f c) = inr (Memᴰ.head refl)
 
 -- nothing but the added rule
 

@@ -14,7 +14,7 @@ marks_set (true ∷ bs) zero h e = absurd (cc)
 marks_set (true ∷ bs) (suc n) h e = ap suc (marks_set bs n (omega arith) e)
 marks_set (false ∷ bs) (suc n) h e = marks_set bs n (omega arith) e
 
-marks_below : (bs : List Bool) → marks bs ≤ length bs
+pub marks_below : (bs : List Bool) → marks bs ≤ length bs
 marks_below [] = omega arith
 marks_below (true ∷ bs) = omega (arith, marks_below bs)
 marks_below (false ∷ bs) = omega (arith, marks_below bs)

@@ -1,18 +1,19 @@
 -- Opening a name: the first items of its rules, along their chain.
-use Rattle.std.proofs.Common.{◌≡◌, ℕ, ◌+◌, ◌-◌, List, [], ◌∷◌, ◌++◌, get_or, sym, refl, ap, ◌∙◌, subst, inl, inr, ⊎_elim, append_assoc, arith}
+use Rattle.std.proofs.Common.{◌≡◌, ℕ, ◌+◌, ◌-◌, ◌<◌, List, [], ◌∷◌, ◌++◌, get_or, sym, refl, ap, ◌∙◌, subst, inl, inr, ⊎_elim, append_assoc, arith}
 use mathlib.Core.List.Memᴰ
 use mathlib.Core.List.{Memᴰ}
 use Rattle.std.proofs.lemmas.List.{append-nil}
 use Rattle.book.specs.Grammar.{Grammar}
 use Rattle.book.specs.Tables.{Name}
 use Rattle.table.specs.Sets.{In}
+use Rattle.theory.proofs.Items.{dotted_below}
 use Rattle.theory.specs.Closure.{Closed}
 use Rattle.theory.specs.Closure.Closed.{opened}
 use Rattle.machine.specs.declared.items.Items.{Items}
 use Rattle.machine.specs.declared.closure.Closing.{Closing}
 use Rattle.machine.specs.Index.{FirstOf, links}
 use Rattle.machine.specs.Closing.{ItemsOf, AfterDot, Grown, ToOpen}
-use Rattle.machine.proofs.Links.{links_chain}
+use Rattle.machine.proofs.Links.{links_chain, chain_head}
 
 pub grown_none : (c : Closing) → Grown c c
 grown_none c = record { more = []; names = sym (append-nil c.names); still = λ k h. h }
@@ -30,7 +31,10 @@ pub open_start : (g : Grammar) (items : Items) (name : ℕ) (set rest : List ℕ
 open_start g items name set rest of n is =
     let e : (g.words + name) - g.words ≡ name = omega arith in
     let p = of.indexed.opens (g.words + name) n in
-    let same : rest ≡ p.numbers = is ∙ ap (λ i. links items.next (get_or items.head i 0)) (sym e) ∙ links_chain p.chain in
+    let head = get_or items.head ((g.words + name) - g.words) 0 in
+    let here : head < 4096 =
+    ⊎_elim (λ z. omega (arith, z)) (λ m. let f = (p.are head).0 m in omega (arith, dotted_below g head f.1, of.fit.small)) (chain_head p.chain) in
+    let same : rest ≡ p.numbers = is ∙ ap (λ i. links items.next (get_or items.head i 0)) (sym e) ∙ links_chain here p.chain in
     record { firsts = λ j m. (p.are j).0 (subst (Memᴰ j) same m); done = λ j f. inr (subst (Memᴰ j) (sym same) ((p.are j).1 f)) }
 
 module _ (g : Grammar) (c k : ℕ) (rest left set : List ℕ) (t : ToOpen g c rest set) (is : rest ≡ k ∷ left) where

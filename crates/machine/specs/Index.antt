@@ -1,5 +1,5 @@
 -- What the closure looks up: the symbol after each item's dot, and the first items of each name's rules.
-use Rattle.std.specs.Prelude.{◌≡◌, ℕ, zero, suc, ◌+◌, ◌-◌, ◌<◌, ◌↔◌, List, [], ◌∷◌, ◌++◌, map, take, Some, None, Option, slice_index}
+use Rattle.std.specs.Prelude.{◌≡◌, ℕ, zero, suc, ◌+◌, ◌-◌, ◌<◌, ◌↔◌, Bool, true, false, nat_lt, List, [], ◌∷◌, ◌++◌, map, take, Some, None, Option, slice_index}
 use Rattle.std.proofs.Math.Option.{some}
 use mathlib.Core.List.{Memᴰ}
 use Rattle.std.proofs.Math.ListN.{get_elem?}
@@ -21,15 +21,27 @@ pub data Chain (next : List ℕ) : ℕ → List ℕ → Type 0 where
 abbrev pub Falls : List ℕ → Type 0
 Falls next = (k : ℕ) → 0 < k → slice_index next k < k
 
--- the numbers that following `next` from k passes, at most n of them
+abbrev pub only_if : Bool → ℕ → ℕ
+only_if true n = n
+only_if false n = 0
+
+-- n where it is below b, or else 0, at which a chain ends
+abbrev pub falling : ℕ → ℕ → ℕ
+falling b n = only_if (nat_lt n b) n
+
+-- the numbers that following `next` from k passes, at most n of them, as far as they fall
 abbrev pub passed : ℕ → List ℕ → ℕ → List ℕ
 passed zero next k = []
 passed (suc n) next zero = []
-passed (suc n) next (suc k) = suc k ∷ passed n next (slice_index next (suc k))
+passed (suc n) next (suc k) = suc k ∷ passed n next (falling (suc k) (slice_index next (suc k)))
 
--- the numbers of the chain from k; where it falls, k of them are all
+-- the numbers of the chain from k, as far as they fall: k of them are all
+abbrev pub passed_from : List ℕ → ℕ → List ℕ
+passed_from next k = passed k next k
+
+-- the numbers of the chain from k, where k is an item's number; else none
 unfoldable pub links : List ℕ → ℕ → List ℕ
-links next k = passed k next k
+links next k = passed_from next (falling 4096 k)
 
 -- the symbol after the dot of item k, or none where 65535 stands for it
 abbrev pub SymbolAfter : List ℕ → ℕ → Option ℕ → Type 0

@@ -3,7 +3,7 @@ ghost use Rattle.std.specs.Prelude.{◌≡◌, ℕ, ◌+◌, ◌-◌, ◌<◌, �
 ghost use Rattle.book.specs.Checks.{Checked};
 ghost use Rattle.book.specs.Grammar.{Grammar};
 ghost use Rattle.book.specs.Tables.{Holds};
-ghost use Rattle.machine.specs.Index.{Indexed, SymbolAfter, Falls, links};
+ghost use Rattle.machine.specs.Index.{Indexed, SymbolAfter, Falls, falling, links};
 ghost use Rattle.std.specs.Iterator.{YieldsFirstBy, item_count};
 ghost use Rattle.table.specs.declared.numbers.ItemNo.{ItemNo as ItemNumber};
 
@@ -23,8 +23,14 @@ pub struct Items {
     pub after: [u16; 4096],
     pub head: [u16; 1024],
     pub next: [u16; 4096],
-    pub ghost falls: { Falls next },
-    pub ghost heads: { (n : ℕ) → slice_index head n < 4096 },
+}
+
+/// A number of a chain where it is below `bound`, or else 0, at which the chain ends.
+// The arrays are public and may hold anything: a chain ends where it leaves the items or does not fall.
+fn link_below(number: u16, bound: u16) -> u16
+    ensures { result ≡ falling bound number }
+{
+    if number < bound { number } else { 0 }
 }
 
 /// The first items of a name's rules, along their chain, seen as the list of those that are left.
@@ -58,7 +64,7 @@ impl<'a> Iterator for FirstItems<'a> {
             return None;
         }
         let item = ItemNo(self.at);
-        self.at = self.items.next[self.at as usize];
+        self.at = link_below(self.items.next[self.at as usize], self.at);
         Some(item)
     }
 }
@@ -82,14 +88,13 @@ impl Items {
     {
         FirstItems {
             items: self,
-            at: self.head[name],
+            at: link_below(self.head[name], 4096),
         }
     }
 
     /// Puts in a rule whose first item has the number `first`, and whose left side is the name of index `name`.
     fn add_rule(&mut self, name: usize, right: &[u16], first: usize)
-        requires room { (name < 1024) × (first + (length right.now + 1) ≤ 4096) }
-        requires heads { (n : ℕ) → slice_index self.old.head n < first }
+        requires { (name < 1024) × (first + (length right.now + 1) ≤ 4096) }
         ensures after { take (first + (length right.now + 1)) self.new.after ≡ take first self.old.after ++ (right.now ++ (65535 ∷ [])) }
         ensures next { self.new.next ≡ slice_set self.old.next first (slice_index self.old.head name) }
         ensures head { self.new.head ≡ slice_set self.old.head name first }
@@ -107,6 +112,8 @@ impl Items {
         requires { Checked table.now (Ok book) }
         ensures words { result.words ≡ book.words }
         ensures indexed { (g : Grammar) → Holds table.now g → Indexed g result.after result.head result.next }
+        ensures falls { Falls result.next }
+        ensures heads { (n : ℕ) → slice_index result.head n < 4096 }
     {
         let mut after = [NO_SYMBOL; 4096];
         after[0] = book.start as u16;

@@ -65,5 +65,5 @@ impl Space for ItemSpace<'_> {
         Some(self.items.close(&carried))
     }
 
-    ghost exact = { set_exact };
+    ghost exact = { λ s es r. set_exact };
 }

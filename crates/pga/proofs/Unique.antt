@@ -17,12 +17,12 @@ use Rattle.pga.proofs.Decided.{passes_framed, passes_fit, fit_passes}
 
 module _ (bytes : List ℕ) (small : AllByRecursion (λ b. b < 256) bytes) where
   -- a file passes all checks
-  file_passes : (a : Acceptor) → IsFile bytes a → AllByRecursion (Passes bytes) (file_checks bytes)
+  pub file_passes : (a : Acceptor) → IsFile bytes a → AllByRecursion (Passes bytes) (file_checks bytes)
   file_passes a f =
       fit_passes bytes (subst Framed (sym f.is) (file_framed a)) (subst Fit (file_decoded bytes a small f.is) f.fit)
 
   -- and what passes all checks is a file
-  passes_file : AllByRecursion (Passes bytes) (file_checks bytes) → IsFile bytes (decoded bytes)
+  pub passes_file : AllByRecursion (Passes bytes) (file_checks bytes) → IsFile bytes (decoded bytes)
   passes_file a = record { fit = passes_fit bytes a; is = framed_file bytes small (passes_framed bytes a) }
 
   is_decoded : (a : Acceptor) → IsFile bytes a → a ≡ decoded bytes

@@ -7,7 +7,7 @@ use Rattle.flattening.specs.declared.jump.Jump.{Jump}
 use Rattle.flattening.specs.Orders.{pair}
 use Rattle.flattening.specs.Walks.{arrows}
 use Rattle.fields.specs.declared.fault.OutputShort.{OutputShort}
-use Rattle.fields.specs.Files.{FileWritten as WrittenFile, Written as WrittenBy}
+use Rattle.fields.specs.Files.{Written as WrittenBy}
 use Rattle.pga.specs.Files.{Fit, file_of}
 
 -- the jumps of a table as plain numbers

@@ -229,3 +229,6 @@ module _ {cs ds : List Class} {rs : List Pair} {c d : Class} (e : cs ≡ c ∷ [
   pub paired_at_first : Paired cs ds rs
   paired_at_first =
       subst (λ (l : List Class). Paired l ds rs) (sym e) (subst (λ (l : List Class). Paired (c ∷ []) l rs) (sym f) (subst (Paired (c ∷ []) (d ∷ [])) (sym g) (paired_first c d)))
+
+  pub pairs_at_first : pair_classes cs ds rs ≡ pair c d ∷ []
+  pairs_at_first = ap (λ (l : List Class). pair_classes l ds rs) e ∙ ap (λ (l : List Class). pair_classes (c ∷ []) l rs) f ∙ ap (pair_classes (c ∷ []) (d ∷ [])) g

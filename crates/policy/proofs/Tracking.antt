@@ -8,7 +8,7 @@ use Rattle.table.specs.declared.numbers.ClassNo.{ClassNo}
 use Rattle.table.proofs.Lists.{stands_below, stands_same, stands_is, stands_getD, stands_left, stands_last, stands_push, mem_at, at_mem}
 use Rattle.finding.specs.Numbered.{Firsts}
 use Rattle.finding.specs.Numbered.Firsts.{nil as f_nil, new as f_new}
-use Rattle.finding.proofs.Unique.{firsts_same}
+use Rattle.finding.proofs.Unique.{firsts_same, firsts_mem}
 use Rattle.finding.proofs.Lawful.{firsts_old, firsts_new}
 use Rattle.theory.specs.Policies.{Class}
 use Rattle.theory.specs.Policies.Class.{states}
@@ -76,8 +76,16 @@ module _ {E : Type 0} (number : E → ℕ) (held : List Class) (es : List E) (t 
   pub entry_at : (k : ℕ) (e : E) → StandsAt es k e → StandsAt held (number e) (of held e)
   entry_at k e s = stands_getD held (number e) (states []) (t.below k e s)
 
+  -- a class that is not held is no entry's
+  pub no_entry : (c : Class) → Lacks held c → Lacks (map (of held) es) c
+  no_entry c l k s =
+      ⊎_elim (λ z. Memᴰ.not-nil z) (lacks_mem held l) (firsts_mem t.firsts (mem_at (map (of held) es) k c s))
+
   pub place_is : (room : Room) {c : Class} → Memᴰ c held ⊎ HasRoom room held c → HasPlace room (map (of held) es) c
   place_is room {c} h hs f = subst (λ (l : List Class). Memᴰ c l ⊎ HasRoom room l c) (firsts_same t.firsts f) h
+
+  pub place_was : (room : Room) {c : Class} → HasPlace room (map (of held) es) c → Memᴰ c held ⊎ HasRoom room held c
+  place_was room h = h held t.firsts
 
   pub no_place_is : (room : Room) {c : Class} → Lacks held c → (HasRoom room held c → ⊥) → HasPlace room (map (of held) es) c → ⊥
   no_place_is room l n h = ⊎_elim (lacks_mem held l) n (h held t.firsts)

@@ -1,5 +1,5 @@
 -- What path takes: the classes that links stand for, before and after.
-use Rattle.std.specs.Prelude.{◌≡◌, ℕ, zero, suc, ◌<◌, List, [], ◌∷◌, ◌++◌, map, length, Some, None, Option, refl}
+use Rattle.std.specs.Prelude.{◌≡◌, ℕ, zero, suc, ◌<◌, ◌≤◌, List, [], ◌∷◌, ◌++◌, map, length, Some, None, Option}
 use Rattle.std.proofs.Common.{sym, ap, subst, ◌∙◌, ⊎_elim, arith}
 use Rattle.std.proofs.Math.Option.{some}
 use Rattle.std.proofs.lemmas.List.{length_push, length-map, same_from_push, map_push}
@@ -9,13 +9,15 @@ use Rattle.table.proofs.Lists.{stands_below, stands_same, stands_is, stands_some
 use Rattle.theory.specs.Policies.{Class, listed, cut_after}
 use Rattle.theory.specs.Policies.Class.{states}
 use Rattle.policy.specs.declared.path.Link.{Link}
+use Rattle.policy.specs.declared.path.After.{After}
 use Rattle.policy.specs.Classes.{free_place, Taken}
-use Rattle.policy.specs.Classes.Taken.{unheld}
-use Rattle.policy.specs.Taking.{placed_taken}
+use Rattle.policy.specs.Classes.Taken.{old, unheld}
+use Rattle.policy.specs.Taking.{placed_taken as entry_taken}
 use Rattle.policy.specs.Places.{Placed}
 use Rattle.policy.specs.Places.Placed.{old as p_old, new as p_new, full as p_full}
-use Rattle.policy.specs.Paths.{link, along, paths, path_classes, Chained, Met, LinkAfter}
-use Rattle.policy.specs.Paths.LinkAfter.{held as a_held, new as a_new, unheld as a_unheld}
+use Rattle.policy.specs.Paths.{link, along, paths, path_classes, Chained, Met, NextClass}
+use Rattle.policy.specs.Paths.NextClass.{held as a_held, new as a_new, unheld as a_unheld}
+use Rattle.policy.specs.declared.path.After.TheVariants.{Held, New}
 use Rattle.policy.specs.Linked.{cut_new, grown_push, paths_length, root_path, link_path, ends}
 
 abbrev onward : ℕ → Class → Class
@@ -23,23 +25,6 @@ onward t d = states (cut_after (listed d) t)
 
 pub classes_length : (ls : List Link) → length (path_classes ls) ≡ length ls
 classes_length ls = length-map (paths ls) states ∙ paths_length ls
-
--- the root's list would have state 0 twice
-once_root : (ls : List Link) → Chained ls → (k : ℕ) (l : Link) → StandsAt ls 0 l → StandsAt ls (suc k) l → ⊥
-once_root ls c k l s t =
-    let q : l ≡ link 0 0 = stands_same ls 0 l (link 0 0) s c.root in
-    let p = link_path ls c (suc k) (link 0 0) (subst (StandsAt ls (suc k)) q t) (omega arith) in
-    let d = c.simple (suc k) ((0 ∷ []) ++ (0 ∷ [])) (subst (λ (ss : List ℕ). StandsAt (paths ls) (suc k) (ss ++ (0 ∷ []))) (stands_is (paths ls) 0 (0 ∷ []) [] (root_path ls c)) p) in
-    let e : 0 ≡ 1 = d 0 1 0 refl refl in
-    omega (arith, e)
-
--- no link has two numbers
-links_distinct : (ls : List Link) → Chained ls → Distinct ls
-links_distinct ls c zero zero l s t = refl
-links_distinct ls c zero (suc k) l s t = absurd (once_root ls c k l s t)
-links_distinct ls c (suc j) zero l s t = absurd (once_root ls c j l t s)
-links_distinct ls c (suc j) (suc k) l s t =
-    c.distinct (suc j) (suc k) (along (paths ls) l) (link_path ls c (suc j) l s (omega arith)) (link_path ls c (suc k) l t (omega arith))
 
 states_same : {ss ts : List ℕ} → states ss ≡ states ts → ss ≡ ts
 states_same e = ap listed e
@@ -51,12 +36,9 @@ module _ (ls : List Link) (c : Chained ls) (i t : ℕ) (ss : List ℕ) (at : Sta
   here : StandsAt (path_classes ls) i (states ss)
   here = stands_map states (paths ls) i ss at
 
-  -- a state on the way leads back to its link
-  on_way : (j : ClassNo) {l : Link} → StandsAt ls j.0 l → Met (paths ls) i t (Some j) → {r : Option ClassNo} {ls' : List Link} → Placed ls l r ls' → Taken free_place (path_classes ls) (onward t) i r (path_classes ls')
-  on_way j {l} s m =
-      placed_taken path_classes ls l (onward t) i here (classes_length ls)
-      (λ k u. stands_map states (paths ls) k (cut_after ss t) (subst (λ (n : ℕ). StandsAt (paths ls) n (cut_after ss t)) (links_distinct ls c j.0 k l s u) (m ss at).1))
-      (λ n. absurd (n j.0 s)) (λ n. absurd (n j.0 s))
+  -- a state on the way leads back to its class
+  on_way : (j : ClassNo) → Met (paths ls) i t (Some j) → Taken free_place (path_classes ls) (onward t) i (Some j) (path_classes ls)
+  on_way j m = old (states ss) here (stands_map states (paths ls) j.0 (cut_after ss t) (m ss at).1)
 
   module _ (m : Met (paths ls) i t None) where
     ahead : cut_after ss t ≡ ss ++ (t ∷ [])
@@ -110,7 +92,7 @@ module _ (ls : List Link) (c : Chained ls) (i t : ℕ) (ss : List ℕ) (at : Sta
 
     by_link : {r : Option ClassNo} {ls' : List Link} → Placed ls (link i t) r ls' → Taken free_place (path_classes ls) (onward t) i r (path_classes ls')
     by_link =
-        placed_taken path_classes ls (link i t) (onward t) i here (classes_length ls)
+        entry_taken path_classes ls (link i t) (onward t) i here (classes_length ls)
         (λ j s. stands_map states (paths ls) j (cut_after ss t) (subst (StandsAt (paths ls) j) (sym ahead) (list_there j s)))
         lacks_class (λ l. more)
 
@@ -140,18 +122,43 @@ module _ (ls : List Link) (c : Chained ls) (i t : ℕ) where
     at_hand : (ss : List ℕ) × StandsAt (paths ls) i ss
     at_hand = stands_some (paths ls) i (omega (arith, paths_length ls))
 
-  pub after_taken : {l : Link} → LinkAfter ls i t (Some l) → {r : Option ClassNo} {ls' : List Link} → Placed ls l r ls' → Taken free_place (path_classes ls) (onward t) i r (path_classes ls')
-  after_taken (a_held j b s m) p = on_way ls c i t (at_hand b).0 (at_hand b).1 j s m p
-  after_taken (a_new b m) p = by_link ls c i t (at_hand b).0 (at_hand b).1 m p
+    pub met_taken : (j : ClassNo) → Met (paths ls) i t (Some j) → Taken free_place (path_classes ls) (onward t) i (Some j) (path_classes ls)
+    met_taken j m = on_way ls c i t at_hand.0 at_hand.1 j m
 
-  pub after_chained : {l : Link} → LinkAfter ls i t (Some l) → {r : Option ClassNo} {ls' : List Link} → Placed ls l r ls' → Chained ls'
-  after_chained (a_held j b s m) (p_old u) = c
-  after_chained (a_held j b s m) (p_new e n f) = absurd (n j.0 s)
-  after_chained (a_held j b s m) (p_full n f) = c
-  after_chained (a_new b m) p = kept ls c i t (at_hand b).0 (at_hand b).1 m p
+    pub placed_taken : Met (paths ls) i t None → {r : Option ClassNo} {ls' : List Link} → Placed ls (link i t) r ls' → Taken free_place (path_classes ls) (onward t) i r (path_classes ls')
+    placed_taken m p = by_link ls c i t at_hand.0 at_hand.1 m p
 
-  pub after_none : LinkAfter ls i t None → Taken free_place (path_classes ls) (onward t) i None (path_classes ls)
-  after_none (a_unheld h) = unheld (omega (arith, classes_length ls))
+    pub placed_chained : Met (paths ls) i t None → {r : Option ClassNo} {ls' : List Link} → Placed ls (link i t) r ls' → Chained ls'
+    placed_chained m p = kept ls c i t at_hand.0 at_hand.1 m p
+
+  pub past_taken : length ls ≤ i → Taken free_place (path_classes ls) (onward t) i None (path_classes ls)
+  past_taken h = unheld (omega (arith, classes_length ls))
+
+  is_after : {a b : After} → a ≡ b → NextClass ls i t (Some a) → NextClass ls i t (Some b)
+  is_after e n = subst (λ (a : After). NextClass ls i t (Some a)) e n
+
+  held_by : {j : ClassNo} → NextClass ls i t (Some (Held j)) → Taken free_place (path_classes ls) (onward t) i (Some j) (path_classes ls)
+  held_by {j} (a_held b m) = met_taken b j m
+
+  taken_by : {l : Link} → NextClass ls i t (Some (New l)) → {r : Option ClassNo} {ls' : List Link} → Placed ls l r ls' → Taken free_place (path_classes ls) (onward t) i r (path_classes ls')
+  taken_by (a_new b m) p = placed_taken b m p
+
+  chained_by : {l : Link} → NextClass ls i t (Some (New l)) → {r : Option ClassNo} {ls' : List Link} → Placed ls l r ls' → Chained ls'
+  chained_by (a_new b m) p = placed_chained b m p
+
+  -- the class after the push is held, or that of a new link
+  pub after_held : {a : After} {j : ClassNo} → a ≡ Held j → NextClass ls i t (Some a) → Taken free_place (path_classes ls) (onward t) i (Some j) (path_classes ls)
+  after_held e n = held_by (is_after e n)
+
+  module _ {a : After} {l : Link} (e : a ≡ New l) (n : NextClass ls i t (Some a)) {r : Option ClassNo} {ls' : List Link} (p : Placed ls l r ls') where
+    pub after_taken : Taken free_place (path_classes ls) (onward t) i r (path_classes ls')
+    after_taken = taken_by (is_after e n) p
+
+    pub after_chained : Chained ls'
+    after_chained = chained_by (is_after e n) p
+
+  pub after_none : NextClass ls i t None → Taken free_place (path_classes ls) (onward t) i None (path_classes ls)
+  after_none (a_unheld h) = past_taken h
 
 -- no class has two numbers
 pub classes_distinct : (ls : List Link) → Chained ls → Distinct (path_classes ls)

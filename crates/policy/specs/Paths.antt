@@ -6,6 +6,8 @@ use Rattle.table.specs.declared.numbers.ClassNo.{ClassNo}
 use Rattle.theory.specs.Policies.{Class, cut_after}
 use Rattle.theory.specs.Policies.Class.{states}
 use Rattle.policy.specs.declared.path.Link.{Link}
+use Rattle.policy.specs.declared.path.After.{After}
+use Rattle.policy.specs.declared.path.After.TheVariants.{Held, New}
 
 abbrev pub link : ℕ → ℕ → Link
 link b s = record { back = record { 0 = b }; state = record { 0 = s } }
@@ -38,8 +40,8 @@ abbrev pub Met : List (List ℕ) → ℕ → ℕ → Option ClassNo → Type 0
 Met ps i t None = (ss : List ℕ) → StandsAt ps i ss → Memᴰ t ss → ⊥
 Met ps i t (Some j) = (ss : List ℕ) → StandsAt ps i ss → Memᴰ t ss × StandsAt ps j.0 (cut_after ss t)
 
--- the link of the class after the one numbered i, as the state t is reached: the one held where the way meets t, or a new one; none where i is no class
-pub data LinkAfter (ls : List Link) (i t : ℕ) : Option Link → Type 0 where
-  held : (j : ClassNo) {l : Link} → i < length ls → StandsAt ls j.0 l → Met (paths ls) i t (Some j) → LinkAfter ls i t (Some l)
-  new : i < length ls → Met (paths ls) i t None → LinkAfter ls i t (Some (link i t))
-  unheld : length ls ≤ i → LinkAfter ls i t None
+-- the class after the one numbered i, as the state t is reached: the one held where the way meets t, or that of a new link; none where i is no class
+pub data NextClass (ls : List Link) (i t : ℕ) : Option After → Type 0 where
+  held : {j : ClassNo} → i < length ls → Met (paths ls) i t (Some j) → NextClass ls i t (Some (Held j))
+  new : i < length ls → Met (paths ls) i t None → NextClass ls i t (Some (New (link i t)))
+  unheld : length ls ≤ i → NextClass ls i t None

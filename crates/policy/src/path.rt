@@ -7,7 +7,7 @@ ghost use Rattle.policy.specs.Classes.{free_place};
 ghost use Rattle.policy.specs.Entries.{entries};
 ghost use Rattle.policy.specs.LinkTaking.{classes_distinct};
 ghost use Rattle.policy.specs.Taking;
-ghost use Rattle.policy.specs.Paths.{path_classes, Chained, LinkAfter};
+ghost use Rattle.policy.specs.Paths.{path_classes, Chained, NextClass};
 
 use crate::places::Places;
 use crate::stacks::{Policy, Push};
@@ -27,6 +27,13 @@ const ROOT: Link = Link {
     state: StateNo(0),
 };
 
+/// The class after a push: one that is held, by its number, or a new one, by its link.
+#[derive(Clone, Copy, PartialEq, Eq, Debug)]
+enum After {
+    Held(ClassNo),
+    New(Link),
+}
+
 /// The policy that keeps the states on the way from state 0, loops cut out.
 #[derive(Drop)]
 pub struct Path {
@@ -44,10 +51,11 @@ impl Path {
         }
     }
 
-    /// The link of the class after `class`: that of `reached` on the way back, or a new one; none where `class` is not held.
-    fn link_after(&self, class: ClassNo, reached: StateNo) -> Option<Link>
+    /// The class after `class`, as `reached` is reached: the one where the way back meets `reached`, or a new one; none where `class` is not held.
+    // By its number where the way back meets it: the places are searched for a new link alone.
+    fn class_after(&self, class: ClassNo, reached: StateNo) -> Option<After>
         requires { Chained (entries self.now.links) }
-        ensures { LinkAfter (entries self.now.links) class.0 reached.0 result }
+        ensures { NextClass (entries self.now.links) class.0 reached.0 result }
     {
         let mut at = class;
         // A loop from link to link: of a walk by the library's `successors` a chain does not know that it ends. Each link tells the next by number, since links
@@ -55,13 +63,13 @@ impl Path {
         loop {
             let link = self.links.get(at)?;
             if link.state == reached {
-                return Some(link);
+                return Some(After::Held(at));
             }
             if at.0 == 0 {
-                return Some(Link {
+                return Some(After::New(Link {
                     back: class,
                     state: reached,
-                });
+                }));
             }
             at = link.back;
         }
@@ -90,12 +98,16 @@ impl Policy for Path {
     }
 
     fn fits(&self, class: ClassNo, push: Push) -> Option<ClassNo> {
-        let link = self.link_after(class, push.reached)?;
-        self.links.look(link)
+        match self.class_after(class, push.reached)? {
+            After::Held(number) => Some(number),
+            After::New(link) => self.links.look(link),
+        }
     }
 
     fn next(&mut self, class: ClassNo, push: Push) -> Option<ClassNo> {
-        let link = self.link_after(class, push.reached)?;
-        self.links.place(link)
+        match self.class_after(class, push.reached)? {
+            After::Held(number) => Some(number),
+            After::New(link) => self.links.place(link),
+        }
     }
 }

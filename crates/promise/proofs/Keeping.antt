@@ -1,20 +1,22 @@
 -- The promise is kept in every state that calls lead to.
-use Rattle.std.proofs.Common.{◌≡◌, ℕ, false, List, [], sym, refl, subst}
+use Rattle.std.proofs.Common.{◌≡◌, ℕ, false, List, [], sym, refl, subst, ◌∷◌}
 use mathlib.Core.Option.{none}
 use Rattle.promise.specs.Acceptors.{Kind}
 use Rattle.promise.specs.Acceptors.Kind.{pga, pgd}
 use Rattle.promise.specs.States.{Slot, State}
-use Rattle.promise.specs.Histories.{Start, Fresh, empty_slot}
+use Rattle.promise.specs.Histories.{Start, Fresh, empty_slot, History, Reached, InOrder}
 use Rattle.promise.specs.Histories.Reached.{fresh, after}
 use Rattle.promise.specs.Tallies.{tally}
 use Rattle.promise.specs.Leaving.{SlotAs, TurnAs, Each, LeftAs}
 use Rattle.promise.specs.Leaving.Filled.{no_byte}
 use Rattle.promise.specs.Leaving.Each.{no_more}
-use Rattle.promise.specs.Promises.{Kept}
+use Rattle.promise.specs.Promises.{Kept, Promise}
 use Rattle.promise.proofs.Ordering.{start_in_order, step_in_order}
 use Rattle.promise.proofs.Leaving.{left_step}
 use Rattle.promise.proofs.Answering.{due_step}
 use Rattle.promise.proofs.Judging.{judged_step}
+use Rattle.promise.specs.Calls.{Call, Answer}
+use Rattle.promise.specs.Steps.{Step}
 
 -- a buffer without a byte of a file is as the first tally says
 empty_as : (k : Kind) (lent : List ℕ) {s : Slot} → s ≡ empty_slot lent → SlotAs k lent (record { note = none; opened = false }) s
@@ -40,3 +42,10 @@ kept o h s (after {h = before} {s = was} reached step) =
       leaves = left_step o (tally o before) p.leaves step;
       in_order = step_in_order p.in_order step;
     }
+
+-- what holds of the state before a call, and of the one after it
+pub in_order : {o : Start} {h : History} {s : State} → Reached o h s → InOrder s
+in_order {o} {h} {s} r = (kept o h s r).in_order
+
+pub kept_on : {o : Start} {h : History} {s s' : State} {c : Call} {a : Answer} → Reached o h s → Step s c a s' → Promise o ((c, a) ∷ h) s'
+kept_on {o} {h} {s' = s'} {c} {a} r t = kept o ((c, a) ∷ h) s' (after r t)

@@ -5,6 +5,9 @@ use Rattle.std.proofs.lemmas.Nat.{shr-shr, mod-pow-add, mod_below}
 use Rattle.std.proofs.lemmas.Nat.Bits.{bit_at-lt}
 use Rattle.table.specs.Sets.{bit, passing}
 
+pub bit_suc : (n b : ℕ) → bit n (suc b) ≡ bit (n / 2) b
+bit_suc n b = ap (λ (x : ℕ). x % 2) (sym (shr-shr n 1 b ∙ ap (λ (e : ℕ). n / 2 ^ e) (one-add b)))
+
 pub bit_shr : (n j b : ℕ) → bit (n / 2 ^ j) b ≡ bit n (j + b)
 bit_shr n j b = ap (λ (x : ℕ). x % 2) (shr-shr n j b)
 

@@ -3,7 +3,7 @@ use Rattle.std.proofs.Common.{◌≡◌, ℕ, zero, suc, ◌+◌, ◌<◌, Bool,
 use mathlib.Core.List.Memᴰ
 use mathlib.Core.List.{Memᴰ}
 use Rattle.std.proofs.lemmas.Bool.{cases_lt}
-use Rattle.table.specs.Lists.{StandsAt, InOrder, Ascending}
+use Rattle.table.specs.Lists.{StandsAt, InOrder, Ascending, Distinct}
 use Rattle.table.specs.Sets.{passing}
 use Rattle.table.proofs.Lists.{stands_below, stands_push, at_mem, mem_at}
 
@@ -64,6 +64,13 @@ module _ {A : Type 0} (R : A → A → Type 0) where
 -- two ascending lists with the same members are one
 pub ascending_same : (ks ls : List ℕ) → Ascending ks → Ascending ls → ((x : ℕ) → Memᴰ x ks → Memᴰ x ls) → ((x : ℕ) → Memᴰ x ls → Memᴰ x ks) → ks ≡ ls
 ascending_same = in_order_same ◌<◌ (λ x y h l. omega arith)
+
+-- a list in an order without loops has nothing twice
+pub ascending_distinct : (ks : List ℕ) → Ascending ks → Distinct ks
+ascending_distinct ks o j k t p q =
+    ⊎_elim (λ h. let r = o j k t t h p q in absurd (omega arith))
+    (λ h. ⊎_elim (λ l. let r = o k j t t l q p in absurd (omega arith)) (λ l. omega arith) (cases_lt k j))
+    (cases_lt j k)
 
 -- ---- the numbers below n that pass a test
 

@@ -41,6 +41,9 @@ pub members_ascending : (words : List ℕ) → Ascending (members words)
 unfolding members
 members_ascending words = passing_ascending (λ j. eqb (bit_of words j) 1) (64 * length words)
 
+pub members_below : (words : List ℕ) → Row words → (k : ℕ) → Memᴰ k (members words) → k < 4096
+members_below words row k m = in_below words row k (members_in words k m)
+
 pub members_listed : (words : List ℕ) → Row words → Listed words (members words)
 members_listed words row = record { ascending = members_ascending words; just = members_in words; every = in_members words row }
 

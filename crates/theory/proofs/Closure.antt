@@ -12,7 +12,7 @@ use Rattle.table.proofs.Orders.{ascending_same}
 use Rattle.table.specs.Lists.{Ascending}
 use Rattle.theory.specs.Lists.{and, keep, Reach}
 use Rattle.theory.specs.Lists.Reach.{base, step}
-use Rattle.theory.specs.Items.{Item, item, items, item_count}
+use Rattle.theory.specs.Items.{Item, item, items, item_count, Dotted}
 use Rattle.theory.specs.Closure.{Closed, begins_with, is_empty, follows, opens, closure, carried, goto, Carried}
 use Rattle.theory.specs.Closure.Closed.{kernel, opened}
 use Rattle.theory.proofs.Lists.{and_only, some_one, none_some, keep_mem, mem_keep}
@@ -117,6 +117,15 @@ module _ (g : Grammar) where
   closure_same K L s =
       closure_unique L (closure g K) (closure_ascending K)
       (λ k. ((λ m. closed_map (λ j i. (s j).0 i) ((closure_members K k).0 m)), (λ c. (closure_members K k).1 (closed_map (λ j i. (s j).1 i) c))))
+
+  -- a set between the kernel and the closure that nothing opens further is the closure
+  pub closure_from_closed : (K set : List ℕ) → Ascending set → ((k : ℕ) → Memᴰ k K → k < item_count g → Memᴰ k set) → ((k : ℕ) → Memᴰ k set → Closed g K k)
+      → ((j k a c : ℕ) (l r s : List ℕ) → Memᴰ j set → Dotted g j a l (c ∷ r) → Dotted g k c [] s → Memᴰ k set) → set ≡ closure g K
+  closure_from_closed K set h start within open_in = closure_unique K set h (λ k. (within k, holds))
+    where
+      holds : {k : ℕ} → Closed g K k → Memᴰ k set
+      holds (kernel {k = k} m b) = start k m b
+      holds (opened {j = j} {k = k} {a = a} {c = c} {l = l} {r = r} {s = s} i d e) = open_in j k a c l r s (holds i) d e
 
   -- ── goto ──
 

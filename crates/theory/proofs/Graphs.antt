@@ -74,3 +74,7 @@ way_to l = way_on l from
 pub leads_on : {moves : List Arrow} {q r : ℕ} {g : List ℕ} → Leads moves q g r → {p : ℕ} {h : List ℕ} → Leads moves r h p → Leads moves q (g ++ h) p
 leads_on here k = k
 leads_on (on v l) k = on v (leads_on l k)
+
+pub way_back : {moves : List Arrow} {p : ℕ} {g : List ℕ} → Way moves p g → Leads moves 0 g p
+way_back from = here
+way_back (over w v) = leads_on (way_back w) (on v here)

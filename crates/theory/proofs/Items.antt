@@ -1,6 +1,6 @@
 -- The items of a grammar: how they are numbered, and what stands at a number.
 use Rattle.std.proofs.Common.{◌≡◌, ℕ, zero, suc, ◌+◌, ◌<◌, List, [], ◌∷◌, ◌++◌, length, take, sym, refl, ap, ◌∙◌, subst, ⊎_elim, append_assoc, append-nil, arith}
-use mathlib.Core.Option.{some}
+use mathlib.Core.Option.{some, Option, none}
 use mathlib.Core.List.Memᴰ
 use mathlib.Core.List.{Memᴰ}
 use lib.ListN.{get_elem?}
@@ -9,7 +9,7 @@ use Rattle.std.proofs.lemmas.List.{length-append, length_push}
 use Rattle.book.specs.Grammar.{Rule, rule, Grammar, symbols, Rewrites}
 use Rattle.book.specs.Tables.{Fit, FitRule, dots as rules_count}
 use Rattle.table.proofs.Lists.{stands_below, stands_some, stands_left, mem_at, at_mem}
-use Rattle.theory.specs.Items.{Item, item, dots, rule_items, items, Dotted, item_count, first_item, Sound, Numbers}
+use Rattle.theory.specs.Items.{Item, item, dots, rule_items, items, Dotted, item_count, first_item, Sound, Numbers, symbol_after}
 use Rattle.theory.specs.Items.Numbers.{added, ruled}
 use Rattle.theory.proofs.Lists.{some_one, none_some, all_mem, at_right, Later, at_split}
 
@@ -191,6 +191,39 @@ fit_sound g f =
       lefts_known = λ r m. (all_mem (FitRule g) g.rules f.each m).left.1;
       rights_known = λ r m. (all_mem (FitRule g) g.rules f.each m).right;
     }
+
+-- ── the symbol after the dot ──
+
+pub symbol_after_is : (g : Grammar) (k : ℕ) {a c : ℕ} {l r : List ℕ} → Dotted g k a l (c ∷ r) → symbol_after g k ≡ some c
+symbol_after_is g k e = rw (e, symbol_after)
+
+pub symbol_after_end : (g : Grammar) (k : ℕ) {a : ℕ} {l : List ℕ} → Dotted g k a l [] → symbol_after g k ≡ none
+symbol_after_end g k e = rw (e, symbol_after)
+
+-- an item with c after its dot
+pub record HasAfter (g : Grammar) (k c : ℕ) : Type 0 where
+  pub left : ℕ
+  pub before : List ℕ
+  pub after : List ℕ
+  pub is : Dotted g k left before (c ∷ after)
+
+pub symbol_after_only : (g : Grammar) (k : ℕ) {c : ℕ} → symbol_after g k ≡ some c → HasAfter g k c
+symbol_after_only g k {c} h = cases (get_elem? (items g) k) refl
+  where
+    ends : (i : Item) (r : List ℕ) → i.after ≡ r → get_elem? (items g) k ≡ some i → HasAfter g k c
+    ends i [] q e = absurd (none_some (symbol_after_end g k (e ∙ ap (λ r. some (item i.left i.before r)) q)) h)
+    ends i (x ∷ r) q e =
+        let d : Dotted g k i.left i.before (x ∷ r) = e ∙ ap (λ r. some (item i.left i.before r)) q in
+        let p : x ≡ c = some_one (symbol_after_is g k d) h in
+        record { left = i.left; before = i.before; after = r; is = d ∙ ap (λ y. some (item i.left i.before (y ∷ r))) p }
+
+    cases : (o : Option Item) → get_elem? (items g) k ≡ o → HasAfter g k c
+    cases none e = absurd (none_some (let q : symbol_after g k ≡ none = rw (e, symbol_after) in q) h)
+    cases (some i) e = ends i i.after refl e
+
+-- the first item of the rule at a place
+pub first_dotted : (g : Grammar) (i : ℕ) {a : ℕ} {s : List ℕ} → get_elem? g.rules i ≡ some (rule a s) → Dotted g (first_item g i) a [] s
+first_dotted g i {a} {s} e = dotted_at g (first_item g i) (ruled i (rule a s) e (omega arith) refl refl)
 
 -- an item that a name after a dot opens is the first item of one of the name's rules
 pub record FirstOf (g : Grammar) (k c : ℕ) (s : List ℕ) : Type 0 where

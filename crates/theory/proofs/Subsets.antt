@@ -125,6 +125,11 @@ module _ (f : Acceptor) (fit : InRange f) where
   pub spread_ascending : (set : List ℕ) → Ascending (spread f set)
   spread_ascending set = saturate_ascending (upto f.nodes) (jumps_to f) set (upto_ascending f.nodes)
 
+  -- an ascending list of just those nodes is the spread set
+  pub spread_unique : (set to : List ℕ) → ((k : ℕ) → Memᴰ k set → k < f.nodes) → Ascending to → ((n : ℕ) → Memᴰ n to ↔ Jumped set n) → to ≡ spread f set
+  spread_unique set to within h m =
+      ascending_same to (spread f set) h (spread_ascending set) (λ n i. (spread_members set within n).1 ((m n).0 i)) (λ n i. (m n).1 ((spread_members set within n).0 i))
+
   -- a member of the set, over an arc on x, and jumps
   pub record Onto (set : List ℕ) (x n : ℕ) : Type 0 where
     pub middle : ℕ

@@ -3,7 +3,7 @@
 -- Item 0 is S' → · start and item 1 is S' → start ·, where S' is an added name with the number `symbols g`. Then come
 -- the rules in their order, each with its dot moving right: a rule of length n has n + 1 items.
 use Rattle.std.specs.Prelude.{◌≡◌, ℕ, ◌+◌, ◌<◌, ◌≤◌, List, [], ◌∷◌, ◌++◌, length, take}
-use Rattle.std.proofs.Math.Option.{some}
+use Rattle.std.proofs.Math.Option.{some, Option, none}
 use mathlib.Core.List.{Memᴰ}
 use Rattle.std.proofs.Math.ListN.{get_elem?}
 use Rattle.std.specs.List.{flat_map, AllByRecursion}
@@ -43,6 +43,15 @@ item_count g = count g
 -- the number of the first item of the rule at a place
 abbrev pub first_item : Grammar → ℕ → ℕ
 first_item g i = 2 + rules_count (take i g.rules)
+
+-- the first symbol of a list
+abbrev pub first_symbol : List ℕ → Option ℕ
+first_symbol [] = none
+first_symbol (x ∷ xs) = some x
+
+-- the symbol after the dot of item number k
+abbrev pub symbol_after : Grammar → ℕ → Option ℕ
+symbol_after g k = elim (get_elem? (items g) k) [ none ↦ none | some i ↦ first_symbol i.after ]
 
 -- what the laws ask of a grammar: the start and each left are names, and each symbol is a word or a name
 pub record Sound (g : Grammar) : Type 0 where

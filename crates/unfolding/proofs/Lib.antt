@@ -1,3 +1,4 @@
 pub mod Seeking
 pub mod Noding
 pub mod Answering
+pub mod Ordering

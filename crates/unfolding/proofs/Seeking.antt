@@ -20,7 +20,7 @@ use Rattle.unfolding.specs.Moves.{state_arrow, state_arrows, LeastSymbol}
 
 module _ (ms : List Arrow) (rising : InOrder Rises ms) where
   -- a state has one move on a symbol
-  one_move : (q x p r : ℕ) → Memᴰ (q, x, p) ms → Memᴰ (q, x, r) ms → p ≡ r
+  pub one_move : (q x p r : ℕ) → Memᴰ (q, x, p) ms → Memᴰ (q, x, r) ms → p ≡ r
   one_move q x p r m n =
       let (j, s) = at_mem ms (q, x, p) m in
       let (k, t) = at_mem ms (q, x, r) n in

@@ -56,5 +56,5 @@ impl<'m, 'p, P: Policy> Space for Nodes<'m, 'p, P> {
         Some(Node { state, class })
     }
 
-    ghost exact = { Prim.search rules };
+    ghost exact = { λ s es r. Prim.search rules };
 }

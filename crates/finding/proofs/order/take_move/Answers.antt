@@ -12,6 +12,9 @@ reach-requires g c =
     let s = stands_read c.args.rows.now _ _ _ c.requires.here c.requires.held.entries_fit c.index-rows-i.is in
     record { held = (_, _, c.requires.held.is_ready, s); moves = c.requires.moves _ s }
 
+pub find_or_add-requires : goal.find_or_add-requires
+find_or_add-requires g c = record { exact = g.met.S.Space.exact _ _ c.requires.held.is_ready }
+
 -- the entry that was read stands among those found, and the space was asked where it leads
 at_move : (g : given.Over) (c : After-reach g)
     → AtMove (g.S.Space.sought (g.S.Space.source c.args.space.now)) (g.S.Space.thing c.args.space.now) (g.S.Space.thing c.reach.new.self) (g.S.Space.ready c.reach.new.self)

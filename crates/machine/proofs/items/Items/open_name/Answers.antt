@@ -1,4 +1,4 @@
-use Rattle.std.proofs.Common.{◌≡◌, get_or, refl, sym, subst, arith}
+use Rattle.std.proofs.Common.{◌≡◌, get_or, refl, sym, subst}
 use mathlib.Core.List.{Memᴰ}
 use Rattle.machine.specs.Index.{links}
 use Rattle.machine.proofs.Links.{links_small}
@@ -10,7 +10,7 @@ loop-item-init c =
     let items = c.args.self.now in
     let is : c.into_iter-item-iterator.result ≡ links items.next (get_or items.head c.args.name 0) = cc in (
       grown_none c.args.at.now,
-      (λ j m. let l = links_small items.next items.falls (get_or items.head c.args.name 0) j (subst (Memᴰ j) is m) in let h = items.heads c.args.name in omega arith),
+      (λ j m. links_small items.next (get_or items.head c.args.name 0) j (subst (Memᴰ j) is m)),
       (λ g of n. open_start g items c.args.name _ _ of n is),
       (λ g K of n a w. w),
     )

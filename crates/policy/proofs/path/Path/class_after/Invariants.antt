@@ -2,7 +2,7 @@ use Rattle.std.proofs.Common.{◌<◌, ◌≤◌, length, Option}
 use Rattle.table.specs.declared.numbers.ClassNo.{ClassNo}
 use Rattle.policy.specs.Entries.{entries}
 use Rattle.policy.specs.Paths.{paths, Met}
-use Rattle.policy.proofs.path.Path.link_after.Given as goal
+use Rattle.policy.proofs.path.Path.class_after.Given as goal
 
 -- what is held and met from here is held and met from the class
 abbrev pub invariant-loop-link : goal.invariant-loop-link

@@ -3,8 +3,8 @@ use Rattle.std.proofs.lemmas.Bool.{false≢true}
 use Rattle.table.proofs.Lists.{stands_below}
 use Rattle.policy.specs.Entries.{entries}
 use Rattle.policy.specs.Linked.{meets_here, meets_none, meets_behind}
-use Rattle.policy.specs.Paths.LinkAfter.{held, new, unheld}
-use Rattle.policy.proofs.path.Path.link_after.Goals as goal
+use Rattle.policy.specs.Paths.NextClass.{held, new, unheld}
+use Rattle.policy.proofs.path.Path.class_after.Goals as goal
 
 pub returns-in_err-link : goal.returns-in_err-link
 returns-in_err-link c = rw c.from_residual.ensures (unheld (c.loop-link.invariant.1 c.in_err-link.ensures))
@@ -13,7 +13,7 @@ pub returns-then-eq : goal.returns-then-eq
 returns-then-eq c =
     let ls = entries c.args.self.now.links in
     let at = c.in_ok-link.ensures in
-    held c.loop-link.at (c.loop-link.invariant.0 (stands_below ls c.loop-link.at.0 c.in_ok-link.link at)) at
+    held (c.loop-link.invariant.0 (stands_below ls c.loop-link.at.0 c.in_ok-link.link at))
     (c.loop-link.invariant.2 (Some c.loop-link.at)
     (meets_here ls c.requires c.loop-link.at c.in_ok-link.link c.args.reached.0 at (eqb-true _ _ (sym c.eq.ensures ∙ c.if-eq.true))))
 
