@@ -32,8 +32,10 @@ const SHORT: [(usize, usize, u8, u8, usize); 5] = [
 mod tests {
     use super::*;
     use book::blank;
+    use machine::items::{Items, NO_SYMBOL};
     use samples::{left_linear, nested, two_sides};
     use std::test::Fail;
+    use table::numbers::ItemNo;
 
     #[test]
     fn small_grammars(rt: HostRuntime) -> Result<(), Fail> {
@@ -63,6 +65,50 @@ mod tests {
             );
         }
         Ok(())
+    }
+
+    /// Of one word, one name and no rule: what no chain of the name passes may be anything.
+    #[test]
+    fn items_of_any_arrays(rt: HostRuntime) {
+        let mut after = [NO_SYMBOL; 4096];
+        after[0] = 1;
+        let mut head = [5000; 1024];
+        head[0] = 0;
+        let items = Items {
+            words: 1,
+            after,
+            head,
+            next: [NO_SYMBOL; 4096],
+        };
+        let set = items.initial_set();
+        assert_eq!(rt; set.size(), 1);
+        assert!(rt; set.has(ItemNo(0)));
+    }
+
+    /// A chain ends where it leaves the items, or does not fall.
+    #[test]
+    fn chains_end(rt: HostRuntime) {
+        let mut next = [0; 4096];
+        next[7] = 3;
+        next[3] = 3;
+        next[5] = 5000;
+        let mut head = [5000; 1024];
+        head[0] = 7;
+        head[1] = 5;
+        let items = Items {
+            words: 1,
+            after: [NO_SYMBOL; 4096],
+            head,
+            next,
+        };
+        let mut chain = items.rules_of(0);
+        assert_eq!(rt; chain.next(), Some(ItemNo(7)));
+        assert_eq!(rt; chain.next(), Some(ItemNo(3)));
+        assert_eq!(rt; chain.next(), None);
+        let mut chain = items.rules_of(1);
+        assert_eq!(rt; chain.next(), Some(ItemNo(5)));
+        assert_eq!(rt; chain.next(), None);
+        assert_eq!(rt; items.rules_of(2).next(), None);
     }
 
     #[test]
